@@ -1,22 +1,16 @@
 -- What a user agent does with lines one after another.
 use Rattle.std.proofs.Common.{◌≡◌, ℕ, ℤ, ◌+◌, ◌<◌, List, [], ◌∷◌, ◌++◌, length, take, get_or, sym, refl, ap, ◌∙◌}
-use Rattle.std.proofs.Common.{subst, inl, inr, Result, Ok, Err, zero, suc, arith, Bool, true, false, true≢false}
-use Rattle.std.specs.Prelude.{map, ◌||◌, IfOk, IsTrue, OnErr}
-use Rattle.std.specs.Str.{IsUtf8, is_utf8}
-use Rattle.std.proofs.lemmas.Str.{IsUtf8-from_is_utf8, is_utf8-from_IsUtf8}
+use Rattle.std.proofs.Common.{subst, inl, inr, zero, suc, arith, Bool, true, false, true≢false}
+use Rattle.std.specs.Prelude.{map, ◌||◌, IsTrue}
 use Rattle.std.proofs.lemmas.List.{take_more, take-map, map-append, length-map}
 use Rattle.publicsuffix.specs.Rules.{Rule}
 use Rattle.url.specs.Parts.{Parts}
 use Rattle.cookie_store.specs.Rows.{Row}
 use Rattle.cookie_client.specs.Accept.{Accepts, AcceptsAll}
 use Rattle.cookie_client.specs.declared.outcome.LineEnd.{LineEnd}
-use Rattle.user_agent.specs.Agent.{AreGiven, AsksForMemory, ClientsTakeTheirs, HandedAsks, IsDoneIf, IsHandedOn}
-use Rattle.user_agent.specs.Agent.{IsHandedText, IsRewritten, rewrites}
-use Rattle.user_agent.specs.Agent.{NoRulesAreTheClient, StopsAtLine, TakesHanded, TakesLine, TakesLines}
-use Rattle.user_agent.specs.CutLives.{IsCutLine}
-use Rattle.user_agent.specs.KnownDates.{IsKnownLine}
-use Rattle.user_agent.specs.LongAttributes.{IsShortLine}
-use Rattle.user_agent.specs.Refusals.{IsStoppedByControl, is_on, no_rules}
+use Rattle.user_agent.specs.Agent.{AreGiven, AsksForMemory, ClientsTakeTheirs, IsDoneIf, IsHandedOn}
+use Rattle.user_agent.specs.Agent.{NoRulesAreTheClient, StopsAtLine, TakesLine, TakesLines}
+use Rattle.user_agent.specs.Refusals.{is_on, no_rules}
 use Rattle.user_agent.specs.declared.rules.Outcome.{Outcome}
 use Rattle.user_agent.specs.declared.rules.Outcome.TheVariants.{Taken, Refused}
 use Rattle.user_agent.specs.declared.rules.Refusal.{Refusal}
@@ -78,65 +72,13 @@ stopped_line f rules list start mid new old url now xs i d h all same asks = rec
 
 -- ---- one line
 
--- where no rule changes lines, each goes on as it came
+-- where no rule changes lines
 pub or_false : (a b : Bool) → false ≡ (a || b) → (a ≡ false) × (b ≡ false)
 or_false true b e = absurd (true≢false (sym e))
 or_false false b e = (refl, sym e)
 
 pub not_done : (b : Bool) (Step : List ℕ → List ℕ → Type 0) (line : List ℕ) → b ≡ false → IsDoneIf b Step line line
 not_done b Step line e = subst (λ x. IsDoneIf x Step line line) (sym e) refl
-
-unchanged : (rules : Rules) (now : ℤ) (line : List ℕ) → false ≡ rewrites rules → IsHandedText rules now line line
-unchanged rules now line e =
-    let first = or_false rules.long_attributes (rules.dates || rules.long_lives) e in
-    let rest = or_false rules.dates rules.long_lives (sym first.1) in
-    record {
-      short = line;
-      known = line;
-      shortened = not_done rules.long_attributes IsShortLine line first.0;
-      dated = not_done rules.dates IsKnownLine line rest.0;
-      cut = not_done rules.long_lives (IsCutLine now) line rest.1;
-    }
-
-pub kept_as_is : (rules : Rules) (now : ℤ) (line : List ℕ) → false ≡ rewrites rules → IsHandedOn rules now line line
-kept_as_is rules now line is = go (is_utf8 line) refl
-  where
-    go : (b : Bool) → is_utf8 line ≡ b → IsHandedOn rules now line line
-    go true text = inl (IsUtf8-from_is_utf8 line text, unchanged rules now line is)
-    go false none = inr ((λ u. true≢false (sym (is_utf8-from_IsUtf8 line u) ∙ none)), refl)
-
--- a text that a rule changes
-pub rewritten_so : {E : Type 0} (r : Result Outcome E) (rules : Rules) (list : List Rule) (rows new : List Row)
-    (url : Parts) (now : ℤ) (line handed : List ℕ) → ¬ (IsStoppedByControl rules line)
-    → IsRewritten rules now line handed → IfOk r (λ outcome. TakesHanded rules list rows url now handed outcome new)
-    → IfOk r (λ outcome. TakesLine rules list rows url now line outcome new)
-rewritten_so (Ok outcome) rules list rows new url now line handed free on h =
-    inr (free, (handed, inl (on.0, on.2), h))
-rewritten_so (Err e) rules list rows new url now line handed free on h = tt
-
-pub rewritten_asks : {A E : Type 0} (r : Result A E) (rules : Rules) (rows new : List Row) (url : Parts) (now : ℤ)
-    (line handed : List ℕ) → ¬ (IsStoppedByControl rules line) → IsRewritten rules now line handed
-    → OnErr r ((new ≡ rows) × HandedAsks rules url handed) → OnErr r ((new ≡ rows) × AsksForMemory rules url line)
-rewritten_asks (Ok outcome) rules rows new url now line handed free on h = tt
-rewritten_asks (Err e) rules rows new url now line handed free on h = (h.0, (free, on.0, inl on.1))
-
--- a line that goes on as it came
-pub handed_so : {E : Type 0} (r : Result Outcome E) (rules : Rules) (list : List Rule) (rows new : List Row)
-    (url : Parts) (now : ℤ) (line : List ℕ) → ¬ (IsStoppedByControl rules line) → IsHandedOn rules now line line
-    → IfOk r (λ outcome. TakesHanded rules list rows url now line outcome new)
-    → IfOk r (λ outcome. TakesLine rules list rows url now line outcome new)
-handed_so (Ok outcome) rules list rows new url now line free on h = inr (free, (line, on, h))
-handed_so (Err e) rules list rows new url now line free on h = tt
-
-pub handed_asks : {A E : Type 0} (r : Result A E) (rules : Rules) (rows new : List Row) (url : Parts)
-    (line : List ℕ) → ¬ (IsStoppedByControl rules line) → OnErr r ((new ≡ rows) × HandedAsks rules url line)
-    → OnErr r ((new ≡ rows) × AsksForMemory rules url line)
-handed_asks (Ok outcome) rules rows new url line free h = tt
-handed_asks (Err e) rules rows new url line free h = (h.0, (free, text h.1, inr h.1))
-  where
-    text : HandedAsks rules url line → IsUtf8 line
-    text (inl over) = over.1.0
-    text (inr client) = client.1
 
 -- ---- what the client gets
 

@@ -8,7 +8,7 @@ use Rattle.std.proofs.lemmas.Slice.Eq.{bytes_eq-Decides}
 use Rattle.publicsuffix.specs.Rules.{Rule}
 use Rattle.url.specs.Parts.{Parts}
 use Rattle.cookie_store.specs.Rows.{Row}
-use Rattle.user_agent.specs.Agent.{AsksForMemory, HandedAsks, IsDoneIf, TakesHanded, TakesLine, rewrites}
+use Rattle.user_agent.specs.Agent.{AsksForMemory, HandedAsks, IsDoneIf, rewrites}
 use Rattle.user_agent.specs.Changes.{AreChangesTo, IsMadeOf, changes_in, left_of, no_changes}
 use Rattle.user_agent.specs.CrossAnswers.{TakesHandedFrom, TakesLineFrom}
 use Rattle.user_agent.specs.CutLives.{IsCutLine}
@@ -16,14 +16,11 @@ use Rattle.user_agent.specs.KnownDates.{IsKnownLine}
 use Rattle.user_agent.specs.LeftAlone.{AreLeftAlone}
 use Rattle.user_agent.specs.LongAttributes.{IsShortLine}
 use Rattle.user_agent.specs.Refusals.{IsStoppedByControl}
-use Rattle.user_agent.specs.SecurePlaces.{ArePlacesOf, Places}
 use Rattle.user_agent.specs.declared.changes.Changes.{Changes}
 use Rattle.user_agent.specs.declared.cross_answer.OutcomeFor.{OutcomeFor}
-use Rattle.user_agent.specs.declared.rules.Outcome.{Outcome}
 use Rattle.user_agent.specs.declared.rules.Rules.{Rules}
 use Rattle.user_agent.proofs.AgentLemmas.{not_done, or_false}
 use Rattle.user_agent.proofs.LeftLemmas.{left_brief, left_dated, left_long}
-use Rattle.user_agent.proofs.PlaceLemmas.{places_stay}
 
 -- ---- what is made of a text
 
@@ -104,18 +101,6 @@ made_without rules now line changes off told = go (is_utf8 line) refl
 
 -- ---- and so it is taken
 
-pub told_so : (rules : Rules) (list : List Rule) (rows new : List Row) (url : Parts) (now : ℤ) (line : List ℕ)
-    (text : Option (List ℕ)) (changes : Changes) (outcome : Outcome) → ¬ (IsStoppedByControl rules line)
-    → IsMadeOf rules now line text changes → TakesHanded rules list rows url now (left_of text line) outcome new
-    → TakesLine rules list rows url now line outcome new
-told_so rules list rows new url now line None changes outcome free (inl (none, told)) h =
-    inr (free, (line, inr (none, refl), h))
-told_so rules list rows new url now line None changes outcome free (inr (utf8, to)) h =
-    inr (free, (line, inl (utf8, to.is), h))
-told_so rules list rows new url now line (Some handed) changes outcome free (utf8, on, to) h =
-    inr (free, (handed, inl (utf8, to.is), h))
-
--- so of an answer that comes across sites, or doesn't
 pub told_from : (rules : Rules) (across : Bool) (list : List Rule) (rows new : List Row) (url : Parts) (now : ℤ)
     (line : List ℕ) (text : Option (List ℕ)) (changes : Changes) (outcome : OutcomeFor)
     → ¬ (IsStoppedByControl rules line) → IsMadeOf rules now line text changes
@@ -127,14 +112,6 @@ told_from rules across list rows new url now line None changes outcome free (inr
     inr (free, (line, inl (utf8, to.is), h))
 told_from rules across list rows new url now line (Some handed) changes outcome free (utf8, on, to) h =
     inr (free, (handed, inl (utf8, to.is), h))
-
-pub told_places : (places : Places) (rules : Rules) (list : List Rule) (rows new : List Row) (url : Parts) (now : ℤ)
-    (line : List ℕ) (text : Option (List ℕ)) (changes : Changes) (outcome : Outcome)
-    → ArePlacesOf places rules url now rows → ¬ (IsStoppedByControl rules line) → IsMadeOf rules now line text changes
-    → TakesHanded rules list rows url now (left_of text line) outcome new → ArePlacesOf places rules url now new
-told_places places rules list rows new url now line text changes outcome h free made takes =
-    places_stay places rules list rows new url now line outcome h
-    (told_so rules list rows new url now line text changes outcome free made takes)
 
 pub at_err : {A E : Type 0} (r : Result A E) (P : Type 0) → P → OnErr r P
 at_err (Ok a) P h = tt

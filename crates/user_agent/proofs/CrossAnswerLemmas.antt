@@ -14,15 +14,17 @@ use Rattle.cookie_text.specs.Record.{Record, Seen, unsliced}
 use Rattle.cookie_text.specs.declared.error.ParseError.{ParseError}
 use Rattle.publicsuffix.specs.Rules.{Rule}
 use Rattle.url.specs.Parts.{Parts}
+use Rattle.cookie_client.specs.Accept.{Accepts}
 use Rattle.cookie_client.specs.HostPrefix.{IsAgainstHost}
-use Rattle.user_agent.specs.Agent.{AsksForMemory, IsHandedOn, IsRewritten, TakesLine, TakesLines}
-use Rattle.user_agent.specs.CrossAnswers.{AreJudged, ByRequest, ComesAcross, IsKeptOut, IsOneOf}
+use Rattle.cookie_client.specs.declared.outcome.LineEnd.{LineEnd}
+use Rattle.user_agent.specs.Agent.{AsksForMemory, IsHandedOn, TakesHanded, TakesLine, TakesLines}
+use Rattle.user_agent.specs.CrossAnswers.{AreJudged, ByRequest, ComesAcross, IsOneOf}
 use Rattle.user_agent.specs.CrossAnswers.{JudgedLinesAreReceived, MaySet, NoBoundRowComes}
 use Rattle.user_agent.specs.CrossAnswers.{OwnAnswersAreReceived, ReceivedLinesAreOwn, StopsAtLineFrom}
 use Rattle.user_agent.specs.CrossAnswers.{TakesHandedFrom, TakesLineFrom, TakesLinesFrom, UnrestrictedRowsAreSecure}
 use Rattle.user_agent.specs.CrossAnswers.{is_bound}
 use Rattle.user_agent.specs.CrossAnswers.{is_unrestricted_without_secure, site_refusal}
-use Rattle.user_agent.specs.Refusals.{IsStoppedByControl}
+use Rattle.user_agent.specs.Refusals.{IsLetIn, IsRefusedBy, is_on, of_no_request}
 use Rattle.user_agent.specs.SecurePlaces.{ArePlacesOf, Places}
 use Rattle.user_agent.specs.SecureRuns.{IsAny}
 use Rattle.user_agent.specs.declared.cross_answer.OutcomeFor.{OutcomeFor}
@@ -30,8 +32,10 @@ use Rattle.user_agent.specs.declared.cross_answer.OutcomeFor.TheVariants.{Judged
 use Rattle.user_agent.specs.declared.cross_answer.SiteRefusal.{SiteRefusal}
 use Rattle.user_agent.specs.declared.cross_answer.SiteRefusal.TheVariants.{CrossSite, NoneLacksSecure}
 use Rattle.user_agent.specs.declared.rules.Outcome.{Outcome}
-use Rattle.user_agent.specs.declared.rules.Outcome.TheVariants.{Refused}
-use Rattle.user_agent.specs.declared.rules.Refusal.TheVariants.{Control}
+use Rattle.user_agent.specs.declared.rules.Outcome.TheVariants.{Taken, Refused}
+use Rattle.user_agent.specs.declared.rules.Refusal.{Refusal}
+use Rattle.user_agent.specs.declared.rules.Refusal.TheVariants.{Control, TooLong, SecurePrefix, HostPrefix}
+use Rattle.user_agent.specs.declared.rules.Refusal.TheVariants.{SecureFromHttp, SecureOverlay, LacksSecure}
 use Rattle.user_agent.specs.declared.rules.Rules.{Rules}
 use Rattle.user_agent.specs.declared.sites.Initiator.{Initiator}
 use Rattle.user_agent.proofs.AgentLemmas.{map_at, map_take}
@@ -85,25 +89,7 @@ stopped_from f rules across list start mid new old url now xs i d h all same ask
 
 -- ---- one line
 
--- a text that a rule changes, and a line that goes on as it came
-pub rewritten_from : {E : Type 0} (r : Result OutcomeFor E) (rules : Rules) (across : Bool) (list : List Rule)
-    (rows new : List Row) (url : Parts) (now : ℤ) (line handed : List ℕ) → ¬ (IsStoppedByControl rules line)
-    → IsRewritten rules now line handed
-    → IfOk r (λ outcome. TakesHandedFrom rules across list rows url now handed outcome new)
-    → IfOk r (λ outcome. TakesLineFrom rules across list rows url now line outcome new)
-rewritten_from (Ok outcome) rules across list rows new url now line handed free on h =
-    inr (free, (handed, inl (on.0, on.2), h))
-rewritten_from (Err e) rules across list rows new url now line handed free on h = tt
-
-pub handed_from : {E : Type 0} (r : Result OutcomeFor E) (rules : Rules) (across : Bool) (list : List Rule)
-    (rows new : List Row) (url : Parts) (now : ℤ) (line : List ℕ) → ¬ (IsStoppedByControl rules line)
-    → IsHandedOn rules now line line
-    → IfOk r (λ outcome. TakesHandedFrom rules across list rows url now line outcome new)
-    → IfOk r (λ outcome. TakesLineFrom rules across list rows url now line outcome new)
-handed_from (Ok outcome) rules across list rows new url now line free on h = inr (free, (line, on, h))
-handed_from (Err e) rules across list rows new url now line free on h = tt
-
--- what reads as this cookie is kept out where that is, and for the same cause
+-- what reads as this cookie may be set where that may
 module _ (once : OneOutcome) (rules : Rules) (across : Bool) (line : List ℕ) (seen : Seen)
     (reads : ReadsPlain line (Ok seen)) where
   same_ok : (s t : Seen) → ◌≡◌ {A = Result Seen ParseError} (Ok s) (Ok t) → s ≡ t
@@ -115,13 +101,21 @@ module _ (once : OneOutcome) (rules : Rules) (across : Bool) (line : List ℕ) (
       some_is_not_none cause
       (sym out.1.2 ∙ (ap (λ (s : Seen). site_refusal rules across s.cookie) same ∙ none))
 
-  -- as the test of the cookie has it
-  pub kept_out_so : (text : List ℕ) (found : Option SiteRefusal) → text ≡ line → IsUtf8 text
-      → found ≡ site_refusal rules across seen.cookie
-      → MatchOption found (MaySet rules across text) (λ cause. IsKeptOut rules across text cause)
-  kept_out_so text None same utf8 is = subst (MaySet rules across) (sym same) (may_set (sym is))
-  kept_out_so text (Some cause) same utf8 is =
-      (utf8, (seen, subst (λ t. ReadsPlain t (Ok seen)) (sym same) reads, sym is))
+-- one that may be set goes as the rules have it
+module _ (rules : Rules) (across : Bool) (list : List Rule) (rows : List Row) (url : Parts) (now : ℤ) (line : List ℕ)
+    (may : MaySet rules across line) where
+  abbrev pub Found : Option Refusal → Type 0
+  Found found =
+      MatchOption found (IsLetIn rules rows url now line) (λ rule. IsRefusedBy rules rows url now line rule)
+
+  pub read_refused : (found : Option Refusal) (rule : Refusal) → found ≡ Some rule → Found found
+      → TakesHandedFrom rules across list rows url now line (Judged (Refused rule)) rows
+  read_refused found rule is h = inr (may, (Refused rule, inl (rule, subst Found is h, refl, refl), refl))
+
+  pub read_taken : (found : Option Refusal) (end : LineEnd) (new : List Row) → found ≡ None → Found found
+      → Accepts list rows url now line end new
+      → TakesHandedFrom rules across list rows url now line (Judged (Taken end)) new
+  read_taken found end new is h accepts = inr (may, (Taken end, inr (subst Found is h, (end, accepts, refl)), refl))
 
 -- a line either changes nothing, or is taken by the rules
 judged_line : (rules : Rules) (across : Bool) (list : List Rule) (rows new : List Row) (url : Parts) (now : ℤ)
@@ -214,6 +208,76 @@ module _ (rules : Rules) (across : Bool) (list : List Rule) (url : Parts) (now :
 none_kept : (b x : Bool) (cause : SiteRefusal) → b ≡ false → ¬ (cond (b && x) (Some NoneLacksSecure) None ≡ Some cause)
 none_kept true x cause e is = false≢true (sym e)
 none_kept false x cause e is = some_is_not_none cause (sym is)
+
+-- ---- where nothing is said of the request
+
+-- the other rules are those that are on
+own_on : (rules : Rules) (r : Refusal) → is_on (of_no_request rules) r ≡ is_on rules r
+own_on rules Control = refl
+own_on rules TooLong = refl
+own_on rules SecurePrefix = refl
+own_on rules HostPrefix = refl
+own_on rules SecureFromHttp = refl
+own_on rules SecureOverlay = refl
+own_on rules LacksSecure = refl
+
+module _ (rules : Rules) (list : List Rule) (rows new : List Row) (url : Parts) (now : ℤ) (line : List ℕ) where
+  own_handed : (handed : List ℕ) → IsHandedOn (of_no_request rules) now line handed → IsHandedOn rules now line handed
+  own_handed handed (inl (utf8, h)) = inl (
+    utf8,
+    record { short = h.short; known = h.known; shortened = h.shortened; dated = h.dated; cut = h.cut },
+  )
+  own_handed handed (inr as_it_came) = inr as_it_came
+
+  own_taken : (handed : List ℕ) (outcome : Outcome)
+      → TakesHanded (of_no_request rules) list rows url now handed outcome new
+      → TakesHanded rules list rows url now handed outcome new
+  own_taken handed outcome (inl (rule, h, is, same)) = inl (
+    rule,
+    record {
+      on = subst (λ b. IsTrue b) (own_on rules rule) h.on;
+      against = h.against;
+      first = λ other below on. h.first other below (subst (λ b. IsTrue b) (sym (own_on rules other)) on);
+    },
+    is,
+    same,
+  )
+  own_taken handed outcome (inr (let_in, end)) =
+      inr ((λ rule on. let_in rule (subst (λ b. IsTrue b) (sym (own_on rules rule)) on)), end)
+
+  judged_is : (a b : Outcome) → Judged a ≡ Judged b → a ≡ b
+  judged_is a b e = cc
+
+  -- none is kept out
+  own_judged : (outcome : OutcomeFor) (judged : Outcome) → outcome ≡ Judged judged
+      → TakesLineFrom (of_no_request rules) false list rows url now line outcome new
+      → TakesLine rules list rows url now line judged new
+  own_judged outcome judged e (inl (stopped, is, same)) =
+      inl (stopped, judged_is judged (Refused Control) (sym e ∙ is), same)
+  own_judged outcome judged e (inr (free, (handed, is_handed, inl (cause, out, is, same)))) =
+      absurd (none_kept false (is_unrestricted_without_secure out.1.0.cookie) cause refl out.1.2)
+  own_judged outcome judged e (inr (free, (handed, is_handed, inr (may, (by, takes, is))))) = inr (
+    free,
+    (
+      handed,
+      own_handed handed is_handed,
+      own_taken handed judged
+          (subst (λ o. TakesHanded (of_no_request rules) list rows url now handed o new) (judged_is by judged
+          (sym is ∙ e)) takes),
+    ),
+  )
+
+-- so by rules that are these
+module _ (rules own : Rules) (are : own ≡ of_no_request rules) (list : List Rule) (rows new : List Row) (url : Parts)
+    (now : ℤ) (line : List ℕ) where
+  pub own_is_judged : (outcome : OutcomeFor) (judged : Outcome) → outcome ≡ Judged judged
+      → TakesLineFrom own false list rows url now line outcome new → TakesLine rules list rows url now line judged new
+  own_is_judged outcome judged e h =
+      own_judged rules list rows new url now line outcome judged e
+      (subst (λ (rs : Rules). TakesLineFrom rs false list rows url now line outcome new) are h)
+
+  pub own_asks : AsksForMemory own url line → AsksForMemory rules url line
+  own_asks h = subst (λ (rs : Rules). AsksForMemory rs url line) are h
 
 module _ (rules : Rules) (off : rules.none_needs_secure ≡ false) (list : List Rule) (url : Parts) (now : ℤ) where
   abbrev Own : List Row → List Row → List (List ℕ) → List OutcomeFor → Type 0

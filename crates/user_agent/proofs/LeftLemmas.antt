@@ -2,7 +2,7 @@
 use Rattle.std.proofs.Common.{◌≡◌, ◌⊎◌, ◌<◌, ◌==◌, ◌++◌, ◌∷◌, [], ◌∙◌, ℕ, ℤ, Bool, true, false, List, Option, Some}
 use Rattle.std.proofs.Common.{None}
 use Rattle.std.proofs.Common.{refl, sym, ap, subst, inl, inr, ⊎_elim, length, get_or, arith, IsSome, IsTrue, codes}
-use Rattle.std.specs.Prelude.{◌↔◌, ◌&&◌, filter, nat_le, nat_lt, IfOk, IfSome, MatchOption, Result, Ok, Err}
+use Rattle.std.specs.Prelude.{◌↔◌, ◌&&◌, filter, nat_le, nat_lt, IfOk, IfSome, Result, Ok, Err}
 use Rattle.std.specs.List.{AllByRecursion, after_first, before_first, flat_map, onto_first, position_or_len}
 use Rattle.std.specs.Str.{IsUtf8, trim}
 use Rattle.std.proofs.lemmas.Bool.{cases_Bool, cond-true, cond-false, both_ways}
@@ -20,12 +20,11 @@ use Rattle.cookie_text.specs.Pieces.{equals, name_of, pieces, semicolon, text_af
 use Rattle.cookie_text.specs.Reading.{GivesAge, HasAttributes, HasLast, ReadsPlain, first_piece}
 use Rattle.cookie_text.specs.ReadingBack.{Pairwise}
 use Rattle.cookie_text.specs.Record.{Seen}
-use Rattle.user_agent.specs.Agent.{IsDoneIf, IsHandedOn, IsHandedText, IsRewritten, rewrites}
+use Rattle.user_agent.specs.Agent.{IsDoneIf}
 use Rattle.user_agent.specs.CutLives.{IsBrief, IsBriefCookie, IsCut, IsCutLine}
 use Rattle.user_agent.specs.KnownDates.{HasLooseDate, IsExpires, IsKnown, IsKnownLine, joined_behind}
 use Rattle.user_agent.specs.LeftAlone.{AreLeftAlone, IsLeftAlone, IsLifeLeftAlone, IsNameOfLife, SaysNoLife}
 use Rattle.user_agent.specs.LongAttributes.{IsShortLine, is_short}
-use Rattle.user_agent.specs.declared.rules.Rules.{Rules}
 use Rattle.user_agent.proofs.CutLemmas.{brief_piece, last_given}
 use Rattle.user_agent.proofs.KnownLemmas.{lone_piece, strict_of}
 use Rattle.user_agent.proofs.PieceLemmas.{IsClean}
@@ -124,31 +123,6 @@ left_brief on now line k =
       each = all_cut now true refl k.rest k.each;
       joined = sym (joined_again line (first_piece line) k.rest k.cut);
     })
-
-pub left_cut : (rules : Rules) (now : ℤ) (brief : Bool) (line handed : List ℕ) → AreLeftAlone now brief line
-    → IsDoneIf rules.long_lives (IsCutLine now) line handed → IsHandedText rules now line handed
-left_cut rules now brief line handed k is_cut = record {
-  short = line;
-  known = line;
-  shortened = left_long rules.long_attributes now brief line k;
-  dated = left_dated rules.dates now brief line k;
-  cut = is_cut;
-}
-
-pub left_handed : (rules : Rules) (now : ℤ) (line : List ℕ) → AreLeftAlone now true line
-    → IsHandedText rules now line line
-left_handed rules now line k =
-    left_cut rules now true line line k (left_brief rules.long_lives now line k)
-
-pub cut_handed : {S E : Type 0} (bytes : S → List ℕ) (r : Result (Option S) E) (rules : Rules) (now : ℤ)
-    (brief : Bool) (line : List ℕ) → AreLeftAlone now brief line
-    → IfOk r (λ cut. MatchOption cut (IsDoneIf rules.long_lives (IsCutLine now) line line)
-    (λ s. IsDoneIf rules.long_lives (IsCutLine now) line (bytes s)))
-    → IfOk r (λ handed. MatchOption handed (IsHandedText rules now line line)
-    (λ s. IsHandedText rules now line (bytes s)))
-cut_handed bytes (Err e) rules now brief line k h = tt
-cut_handed bytes (Ok None) rules now brief line k h = left_cut rules now brief line line k h
-cut_handed bytes (Ok (Some s)) rules now brief line k h = left_cut rules now brief line (bytes s) k h
 
 -- ---- its pieces
 
@@ -297,14 +271,3 @@ pub line_left : {E : Type 0} (now : ℤ) (line rest : List ℕ) (r : Result (Opt
 line_left now line rest (Ok (Some brief)) holds is_rest h = left_line_of now brief line rest holds is_rest h
 line_left now line rest (Ok None) holds is_rest h = tt
 line_left now line rest (Err e) holds is_rest h = tt
-
-pub handed_from : {S E : Type 0} (bytes : S → List ℕ) (r : Result (Option S) E) (rules : Rules) (now : ℤ)
-    (line text : List ℕ) → IsUtf8 line → text ≡ line → IsTrue (rewrites rules)
-    → IfOk r (λ handed. MatchOption handed (IsHandedText rules now text text)
-    (λ s. IsHandedText rules now text (bytes s)))
-    → IfOk r (λ handed. MatchOption handed (IsHandedOn rules now line line) (λ s. IsRewritten rules now line (bytes s)))
-handed_from bytes (Err e) rules now line text utf8 same on h = tt
-handed_from bytes (Ok None) rules now line text utf8 same on h =
-    inl (utf8, subst (λ t. IsHandedText rules now t t) same h)
-handed_from bytes (Ok (Some s)) rules now line text utf8 same on h =
-    (utf8, on, subst (λ t. IsHandedText rules now t (bytes s)) same h)

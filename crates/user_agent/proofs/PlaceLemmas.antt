@@ -3,7 +3,7 @@ use Rattle.std.proofs.Common.{◌≡◌, ◌⊎◌, ◌↔◌, ◌&&◌, ◌<◌
 use Rattle.std.proofs.Common.{List, Option, Some, None, refl, sym, ap, subst, inl, inr, ⊎_elim, true≢false, take}
 use Rattle.std.proofs.Common.{length, get_or, zero, suc, arith, append-nil, append_assoc, IsTrue}
 use Rattle.std.specs.Borrow.{Bor}
-use Rattle.std.specs.Prelude.{filter, map, option_copied, option_map, unwrap_or, IfOk, OnErr, Result, Ok, Err}
+use Rattle.std.specs.Prelude.{filter, map, option_copied, option_map, unwrap_or, IfOk, Result, Ok, Err}
 use Rattle.std.specs.BTreeMap.{BTreeMap, get_by, insert_entry, is_at}
 use Rattle.std.specs.Cmp.Lexicographic.{slice_cmp}
 use Rattle.std.specs.Global.{Vec}
@@ -24,7 +24,7 @@ use Rattle.cookie_text.specs.Printing.{is_set}
 use Rattle.store_parts.specs.Expiry.{is_dead}
 use Rattle.store_parts.specs.Schemes.{IsSecure}
 use Rattle.cookie_store.specs.Rows.{Row, is_live}
-use Rattle.user_agent.specs.Agent.{AsksForMemory, TakesLine}
+use Rattle.user_agent.specs.Agent.{TakesLine}
 use Rattle.user_agent.specs.Integrity.{is_protected}
 use Rattle.user_agent.specs.Refusals.{HasOne, IsOverlaid}
 use Rattle.user_agent.specs.SecurePlaces.{ArePlacesOf, IsOneReached, IsReached, Places, entries_of, is_named}

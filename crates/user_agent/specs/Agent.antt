@@ -97,11 +97,6 @@ ClientsTakeTheirs =
 abbrev pub rewrites : Rules → Bool
 rewrites rules = rules.long_attributes || (rules.dates || rules.long_lives)
 
--- a step of the code, for private contracts alone: a text that a rule which is on may change, as the client gets it
-abbrev pub IsRewritten : Rules → ℤ → List ℕ → List ℕ → Type 0
-IsRewritten rules now line handed =
-    IsUtf8 line × IsTrue (rewrites rules) × IsHandedText rules now line handed
-
 -- For what is handed on there may be no memory: what it lies over is looked for, or the client asks for it.
 abbrev pub HandedAsks : Rules → Parts → List ℕ → Type 0
 HandedAsks rules url handed = (IsTrue rules.secure_overlay × AsksForOverlay url handed) ⊎ ClientAsks url handed

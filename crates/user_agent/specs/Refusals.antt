@@ -172,6 +172,10 @@ no_rules = record {
   none_needs_secure = false;
 }
 
+-- those where nothing is said of what started a request
+abbrev pub of_no_request : Rules → Rules
+of_no_request rules = record rules { none_needs_secure = false }
+
 -- the place of a rule in their order
 abbrev pub place : Refusal → ℕ
 place Control = 0

@@ -1,10 +1,8 @@
 //! A user agent: a client behind rules.
-ghost use Rattle.std.specs.Prelude.{◌≡◌, ◌⊎◌, ◌≤ℤ◌, false, map, pos, IfErr, IfOk, IsTrue, MatchOption};
-ghost use Rattle.std.specs.Prelude.{◌↔◌, Ok, OnErr, OnOk, string_bytes};
+ghost use Rattle.std.specs.Prelude.{◌≡◌, ◌⊎◌, ◌≤ℤ◌, false, map, pos, IfErr, IfOk, OnErr, OnOk, string_bytes};
 ghost use Rattle.std.specs.Io.KnownBytes.{Appends};
 ghost use Rattle.std.specs.List.{AllByRecursion};
 ghost use Rattle.std.specs.Str.{IsUtf8};
-ghost use Rattle.cookie_text.specs.Reading.{ReadsPlain};
 ghost use Rattle.jiff.specs.Words.{civil_nanos};
 ghost use Rattle.saved_text.specs.RonLayout.{ron_layout};
 ghost use Rattle.saved_text.specs.RonReading.{ShowsOnly};
@@ -19,27 +17,18 @@ ghost use Rattle.cookie_client.specs.Keeping.{HaveReadPairs, Keeps};
 ghost use Rattle.cookie_client.specs.KeptKeys.{KeepsKeys};
 ghost use Rattle.user_agent.specs.Agent as spec;
 ghost use Rattle.user_agent.specs.CrossAnswers.{IsStoppedFor, ReceivesFor};
-ghost use Rattle.user_agent.specs.CutLives.{IsCutLine};
 ghost use Rattle.user_agent.specs.Headers.{IsHeaderBehind, OtherHeadersAreTheClients};
 ghost use Rattle.user_agent.specs.Integrity.{ProtectedRowsStay};
-ghost use Rattle.user_agent.specs.KnownDates.{IsKnownLine};
-ghost use Rattle.user_agent.specs.Refusals.{IsLetIn, IsStoppedByControl};
 ghost use Rattle.user_agent.specs.SecurePlaces.{ArePlacesOf, ShowPlaces};
 
-use crate::changes::shortened;
 use crate::cross_answer::{OutcomeFor, receive_for};
-use crate::cut_life::with_cut_life;
-use crate::headers::header_at;
-use crate::judging::{has_control, refusal};
-use crate::known_date::with_known_date;
-use crate::left_alone::left_alone;
-use crate::rules::{Outcome, Refusal, Rules};
+use crate::cross_site::header_for;
+use crate::rules::{Outcome, Rules};
 use crate::secure_places::SecurePlaces;
 use crate::sites::Initiator;
-use cookie::Cookie as RawCookie;
+use crate::taking::take;
 use cookie_client::{Client, Stopped};
 use cookie_store::{Error, Sink, Source};
-use cookie_text::laws::one_outcome;
 use jiff::civil::DateTime;
 use publicsuffix::List;
 use std::alloc::{AllocError, Global};
@@ -102,7 +91,7 @@ impl UserAgent {
         ensures { IfOk result (λ header.
             IsHeaderBehind self.now.rules self.now.store.rows url.now (civil_nanos now) (string_bytes header)) }
     {
-        header_of(&self.client, &self.rules, url, now)
+        header_for(&self.client, &self.rules, url, &Initiator::user(), now)
     }
 
     /// Takes the `Set-Cookie` lines of an answer from this URL at `now`, one after another, and says what became of
@@ -247,24 +236,6 @@ impl UserAgent {
     }
 }
 
-/// The `Cookie` header of a request to this URL at `now` from a client behind these rules, as [`UserAgent::header`]
-/// gives it: for a client whose rules another keeps.
-///
-/// # Errors
-///
-/// Those of [`UserAgent::header`].
-pub fn header_of(
-    client: &Client,
-    rules: &Rules,
-    url: &Url,
-    now: DateTime,
-) -> Result<String, AllocError>
-    ensures { IfOk result (λ header.
-        IsHeaderBehind rules.now client.now.rows url.now (civil_nanos now) (string_bytes header)) }
-{
-    header_at(client.alloc(), client.store(), rules, url, now)
-}
-
 /// Takes the `Set-Cookie` lines of an answer from this URL at `now` into a client behind these rules, one after
 /// another, as [`UserAgent::receive`] does: for a client whose rules another keeps.
 ///
@@ -311,7 +282,7 @@ fn receive_beside(
         return Err(Stopped(0));
     };
     for (i, line) in lines.iter().enumerate() {
-        match take_line(client, rules, secure, url, line, now) {
+        match take_own(client, rules, secure, url, line, now) {
             // There is room for one outcome a line, so this push is not refused.
             Ok(outcome) => match outcomes.push(outcome) {
                 Ok(()) => {}
@@ -323,9 +294,8 @@ fn receive_beside(
     Ok(outcomes)
 }
 
-// Takes one line.
-#[tactic(auto, using(crate::proofs::AgentLemmas::rewritten_so, crate::proofs::AgentLemmas::rewritten_asks, crate::proofs::AgentLemmas::handed_so, crate::proofs::AgentLemmas::handed_asks,))]
-fn take_line(
+// Takes one line of an answer of whose request nothing is said: none is kept out.
+fn take_own(
     client: &mut Client,
     rules: &Rules,
     secure: &SecurePlaces,
@@ -340,194 +310,11 @@ fn take_line(
         × spec.AsksForMemory rules.now url.now line.now) }
     ensures list { client.new.suffixes ≡ client.old.suffixes }
 {
-    if is_stopped(rules, line) {
-        return Ok(Outcome::Refused(Refusal::Control));
+    let own = rules.of_no_request();
+    match take(client, &own, false, secure, url, line, now)?.0 {
+        OutcomeFor::Judged(outcome) => Ok(outcome),
+        OutcomeFor::KeptOut(_) => unreachable!(),
     }
-    match rewritten(client.alloc(), rules, line, now)? {
-        Some(handed) => take_handed(client, rules, secure, url, handed.as_bytes(), now),
-        None => take_handed(client, rules, secure, url, line, now),
-    }
-}
-
-// The line as the client gets it, where a rule is on that changes lines and it is a text.
-pub(crate) fn rewritten(
-    alloc: Global,
-    rules: &Rules,
-    line: &[u8],
-    now: DateTime,
-) -> Result<Option<String>, AllocError>
-    ensures handed { IfOk result (λ handed. MatchOption handed
-        (spec.IsHandedOn rules.now (civil_nanos now) line.now line.now)
-        (λ text. spec.IsRewritten rules.now (civil_nanos now) line.now (string_bytes text))) }
-    ensures err { OnErr result (IsUtf8 line.now × IsTrue (spec.rewrites rules.now)) }
-{
-    if !rewrites(rules) {
-        return Ok(None);
-    }
-    match str::from_utf8(line) {
-        Ok(text) => rewritten_text(alloc, rules, text, now),
-        Err(_) => Ok(None),
-    }
-}
-
-// The same of a line that is a text.
-fn rewritten_text(
-    alloc: Global,
-    rules: &Rules,
-    line: &str,
-    now: DateTime,
-) -> Result<Option<String>, AllocError>
-    ensures { IfOk result (λ handed. MatchOption handed
-        (spec.IsHandedText rules.now (civil_nanos now) line.now line.now)
-        (λ text. spec.IsHandedText rules.now (civil_nanos now) line.now (string_bytes text))) }
-{
-    let Some(brief) = left_alone(alloc, line, now)? else {
-        return Ok(Some(handed_text(alloc, rules, line, now)?));
-    };
-    if brief {
-        Ok(None)
-    } else {
-        cut_alone(alloc, rules, line, now)
-    }
-}
-
-// The line with its life cut, where that rule is on.
-fn cut_alone(
-    alloc: Global,
-    rules: &Rules,
-    line: &str,
-    now: DateTime,
-) -> Result<Option<String>, AllocError>
-    ensures { IfOk result (λ cut. MatchOption cut
-        (spec.IsDoneIf rules.now.long_lives (IsCutLine (civil_nanos now)) line.now line.now)
-        (λ text. spec.IsDoneIf rules.now.long_lives (IsCutLine (civil_nanos now)) line.now (string_bytes text))) }
-{
-    if rules.long_lives {
-        Ok(Some(with_cut_life(alloc, line, now)?))
-    } else {
-        Ok(None)
-    }
-}
-
-// Whether a control character stops the line.
-pub(crate) fn is_stopped(rules: &Rules, line: &[u8]) -> bool
-    ensures { IsTrue result ↔ IsStoppedByControl rules.now line.now }
-{
-    rules.control && has_control(line)
-}
-
-// Whether a rule is on that changes lines.
-pub(crate) fn rewrites(rules: &Rules) -> bool
-    ensures { result ≡ spec.rewrites rules.now }
-{
-    rules.long_attributes || rules.dates || rules.long_lives
-}
-
-// The text as the client gets it.
-fn handed_text(
-    alloc: Global,
-    rules: &Rules,
-    line: &str,
-    now: DateTime,
-) -> Result<String, AllocError>
-    ensures { IfOk result (λ handed.
-        spec.IsHandedText rules.now (civil_nanos now) line.now (string_bytes handed)) }
-{
-    let short = shortened(alloc, rules, line)?;
-    let known = dated_text(alloc, rules, short)?;
-    cut_text(alloc, rules, known, now)
-}
-
-// The line with its dates known, where that rule is on.
-fn dated_text(alloc: Global, rules: &Rules, line: String) -> Result<String, AllocError>
-    ensures { IfOk result (λ known.
-        spec.IsDoneIf rules.now.dates IsKnownLine (string_bytes line) (string_bytes known)) }
-{
-    if rules.dates {
-        with_known_date(alloc, line.as_str())
-    } else {
-        Ok(line)
-    }
-}
-
-// The line with its life cut, where that rule is on.
-fn cut_text(alloc: Global, rules: &Rules, line: String, now: DateTime) -> Result<String, AllocError>
-    ensures { IfOk result (λ cut.
-        spec.IsDoneIf rules.now.long_lives (IsCutLine (civil_nanos now)) (string_bytes line) (string_bytes cut)) }
-{
-    if rules.long_lives {
-        with_cut_life(alloc, line.as_str(), now)
-    } else {
-        Ok(line)
-    }
-}
-
-// Takes a line as the client gets it, that no control character stops.
-fn take_handed(
-    client: &mut Client,
-    rules: &Rules,
-    secure: &SecurePlaces,
-    url: &Url,
-    line: &[u8],
-    now: DateTime,
-) -> Result<Outcome, AllocError>
-    requires { ShowPlaces secure.now (civil_nanos now) client.old.rows }
-    ensures ok { IfOk result (λ outcome. spec.TakesHanded rules.now client.old.suffixes client.old.rows url.now
-        (civil_nanos now) line.now outcome client.new.rows) }
-    ensures err { OnErr result ((client.new.rows ≡ client.old.rows) × spec.HandedAsks rules.now url.now line.now) }
-    ensures list { client.new.suffixes ≡ client.old.suffixes }
-{
-    one_outcome();
-    let Ok(text) = str::from_utf8(line) else {
-        return take_unread(client, rules, url, line, now);
-    };
-    match RawCookie::parse(text) {
-        Ok(cookie) => take_read(client, rules, secure, url, text, &cookie, now),
-        Err(_) => take_unread(client, rules, url, line, now),
-    }
-}
-
-// The same of a line that is no text, or reads as no cookie: no rule refuses it.
-pub(crate) fn take_unread(
-    client: &mut Client,
-    rules: &Rules,
-    url: &Url,
-    line: &[u8],
-    now: DateTime,
-) -> Result<Outcome, AllocError>
-    requires { IsLetIn rules.now client.old.rows url.now (civil_nanos now) line.now }
-    ensures ok { IfOk result (λ outcome. spec.TakesHanded rules.now client.old.suffixes client.old.rows url.now
-        (civil_nanos now) line.now outcome client.new.rows) }
-    ensures err { OnErr result ((client.new.rows ≡ client.old.rows) × spec.HandedAsks rules.now url.now line.now) }
-    ensures list { client.new.suffixes ≡ client.old.suffixes }
-{
-    let end = client.receive_line(url, line, now)?;
-    Ok(Outcome::Taken(end))
-}
-
-// The same of a line of which the cookie was read.
-pub(crate) fn take_read(
-    client: &mut Client,
-    rules: &Rules,
-    secure: &SecurePlaces,
-    url: &Url,
-    line: &str,
-    cookie: &RawCookie<'_>,
-    now: DateTime,
-) -> Result<Outcome, AllocError>
-    requires shown { ShowPlaces secure.now (civil_nanos now) client.old.rows }
-    requires read { ReadsPlain line.now (Ok cookie.now) }
-    ensures ok { IfOk result (λ outcome. spec.TakesHanded rules.now client.old.suffixes client.old.rows url.now
-        (civil_nanos now) line.now outcome client.new.rows) }
-    ensures err { OnErr result ((client.new.rows ≡ client.old.rows) × spec.HandedAsks rules.now url.now line.now) }
-    ensures list { client.new.suffixes ≡ client.old.suffixes }
-{
-    let (alloc, store) = (client.alloc(), client.store());
-    if let Some(rule) = refusal(alloc, rules, store, secure, url, line, cookie, now)? {
-        return Ok(Outcome::Refused(rule));
-    }
-    let end = client.receive_read(url, line, cookie, now)?;
-    Ok(Outcome::Taken(end))
 }
 
 /// With no rule on, a user agent takes lines exactly as its client does; and where neither `secure_wins` nor `control`

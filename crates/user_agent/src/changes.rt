@@ -1,28 +1,22 @@
 //! Which rules change a line, and what each of them makes of it.
-ghost use Rattle.std.specs.Prelude.{◌≡◌, IfOk, IsTrue, None, OnErr, option_map, string_bytes};
+ghost use Rattle.std.specs.Prelude.{◌≡◌, ◌↔◌, IfOk, IsTrue, None, OnErr, option_map, string_bytes};
 ghost use Rattle.std.specs.Str.{IsUtf8};
 ghost use Rattle.jiff.specs.Words.{civil_nanos};
-ghost use Rattle.user_agent.specs.Agent.{AsksForMemory, IsDoneIf, TakesLine, rewrites};
+ghost use Rattle.user_agent.specs.Agent.{IsDoneIf, rewrites};
 ghost use Rattle.user_agent.specs.Changes as spec;
-ghost use Rattle.user_agent.specs.CrossAnswers.{TakesLineFrom};
 ghost use Rattle.user_agent.specs.CutLives.{IsCutLine};
 ghost use Rattle.user_agent.specs.KnownDates.{IsKnownLine};
 ghost use Rattle.user_agent.specs.LongAttributes.{IsShortLine};
-ghost use Rattle.user_agent.specs.SecurePlaces.{ArePlacesOf};
+ghost use Rattle.user_agent.specs.Refusals.{IsStoppedByControl};
 
-use crate::accepting::{accept_handed, accept_handed_from};
-use crate::agent::{is_stopped, rewrites};
-use crate::cross_answer::OutcomeFor;
 use crate::cut_life::with_cut_life;
+use crate::judging::has_control;
 use crate::known_date::with_known_date;
 use crate::left_alone::left_alone;
 use crate::long_attributes::without_long_attributes;
-use crate::rules::{Outcome, Refusal, Rules};
-use crate::secure_places::SecurePlaces;
-use cookie_store::CookieStore;
+use crate::rules::Rules;
 use jiff::civil::DateTime;
 use std::alloc::{AllocError, Global};
-use url::Url;
 
 /// Which rules changed a line: those that made another text of the one that they were handed.
 #[derive(Clone, Copy, Debug, PartialEq, Eq)]
@@ -34,10 +28,10 @@ pub struct Changes {
 
 // What is made of a line.
 #[derive(Drop)]
-struct Made {
+pub(crate) struct Made {
     // Another text, or none where the line goes on as it came.
-    text: Option<String>,
-    changes: Changes,
+    pub(crate) text: Option<String>,
+    pub(crate) changes: Changes,
 }
 
 impl Changes {
@@ -53,78 +47,20 @@ impl Changes {
     }
 }
 
-/// Takes one `Set-Cookie` line of an answer from this URL at `now` into a store behind these rules, as
-/// [`crate::UserAgent::receive`] takes each into its client: for a store that is no client's. The Secure rows stand at
-/// these places: those of the store as the answer's lines began ([`SecurePlaces::of`]). Tells which rules changed the
-/// line: none where a control character stops it first of all.
-///
-/// # Errors
-///
-/// `AllocError` where memory was refused. The rows are then as they were.
-pub fn accept_line_told(
-    alloc: Global,
-    store: &mut CookieStore,
-    rules: &Rules,
-    secure: &SecurePlaces,
-    url: &Url,
-    line: &[u8],
-    now: DateTime,
-) -> Result<(Outcome, Changes), AllocError>
-    requires { ArePlacesOf secure.now rules.now url.now (civil_nanos now) store.old.rows }
-    ensures ok { IfOk result (λ told. TakesLine rules.now store.old.suffixes store.old.rows url.now
-        (civil_nanos now) line.now told.0 store.new.rows) }
-    ensures changes { IfOk result (λ told. spec.AreChanges rules.now (civil_nanos now) line.now told.1) }
-    ensures err { OnErr result ((store.new.rows ≡ store.old.rows)
-        × AsksForMemory rules.now url.now line.now) }
-    ensures list { store.new.suffixes ≡ store.old.suffixes }
-    ensures places { ArePlacesOf secure.now rules.now url.now (civil_nanos now) store.new.rows }
+// Whether a control character stops the line.
+pub(crate) fn is_stopped(rules: &Rules, line: &[u8]) -> bool
+    ensures { IsTrue result ↔ IsStoppedByControl rules.now line.now }
 {
-    if is_stopped(rules, line) {
-        return Ok((Outcome::Refused(Refusal::Control), Changes::none()));
-    }
-    let made = made_of(alloc, rules, line, now)?;
-    let handed = left_of(&made.text, line);
-    let outcome = accept_handed(alloc, store, rules, secure, url, handed, now)?;
-    Ok((outcome, made.changes))
-}
-
-/// The same of a line of an answer that comes across sites, or doesn't ([`crate::cross_answer::comes_across`]), as
-/// [`crate::UserAgent::receive_for`] takes each into its client.
-///
-/// # Errors
-///
-/// Those of [`accept_line_told`].
-pub fn accept_line_from(
-    alloc: Global,
-    store: &mut CookieStore,
-    rules: &Rules,
-    across: bool,
-    secure: &SecurePlaces,
-    url: &Url,
-    line: &[u8],
-    now: DateTime,
-) -> Result<(OutcomeFor, Changes), AllocError>
-    requires { ArePlacesOf secure.now rules.now url.now (civil_nanos now) store.old.rows }
-    ensures ok { IfOk result (λ told. TakesLineFrom rules.now across store.old.suffixes store.old.rows url.now
-        (civil_nanos now) line.now told.0 store.new.rows) }
-    ensures changes { IfOk result (λ told. spec.AreChanges rules.now (civil_nanos now) line.now told.1) }
-    ensures err { OnErr result ((store.new.rows ≡ store.old.rows)
-        × AsksForMemory rules.now url.now line.now) }
-    ensures list { store.new.suffixes ≡ store.old.suffixes }
-    ensures places { ArePlacesOf secure.now rules.now url.now (civil_nanos now) store.new.rows }
-{
-    if is_stopped(rules, line) {
-        let outcome = OutcomeFor::Judged(Outcome::Refused(Refusal::Control));
-        return Ok((outcome, Changes::none()));
-    }
-    let made = made_of(alloc, rules, line, now)?;
-    let left = left_of(&made.text, line);
-    let outcome = accept_handed_from(alloc, store, rules, across, secure, url, left, now)?;
-    Ok((outcome, made.changes))
+    rules.control && has_control(line)
 }
 
 // What is made of a line that no control character stops.
-fn made_of(alloc: Global, rules: &Rules, line: &[u8], now: DateTime) -> Result<Made, AllocError>
+pub(crate) fn made_of(
+    alloc: Global,
+    rules: &Rules,
+    line: &[u8],
+    now: DateTime,
+) -> Result<Made, AllocError>
     ensures made { IfOk result (λ made. spec.IsMadeOf rules.now (civil_nanos now) line.now
         (option_map string_bytes made.text) made.changes) }
     ensures err { OnErr result (IsUtf8 line.now × IsTrue (rewrites rules.now)) }
@@ -212,8 +148,15 @@ fn made_by_the_last(
     })
 }
 
+// Whether a rule is on that changes lines.
+fn rewrites(rules: &Rules) -> bool
+    ensures { result ≡ rewrites rules.now }
+{
+    rules.long_attributes || rules.dates || rules.long_lives
+}
+
 // The text that was made of the line, or the line.
-fn left_of<'a>(text: &'a Option<String>, line: &'a [u8]) -> &'a [u8]
+pub(crate) fn left_of<'a>(text: &'a Option<String>, line: &'a [u8]) -> &'a [u8]
     ensures { result.now ≡ spec.left_of (option_map string_bytes text.now) line.now }
 {
     match text {

@@ -1,22 +1,17 @@
 //! What an answer may set, by what started its request (the draft that follows RFC 6265, version 15, section 5.7).
-ghost use Rattle.std.specs.Prelude.{◌≡◌, ◌↔◌, IfErr, IfOk, IsTrue, MatchOption, Ok, OnErr, map};
-ghost use Rattle.cookie_text.specs.Reading.{ReadsPlain};
+ghost use Rattle.std.specs.Prelude.{◌≡◌, ◌↔◌, IfErr, IfOk, IsTrue, map};
 ghost use Rattle.jiff.specs.Words.{civil_nanos};
-ghost use Rattle.user_agent.specs.Agent.{AsksForMemory, HandedAsks};
 ghost use Rattle.user_agent.specs.CrossAnswers as spec;
-ghost use Rattle.user_agent.specs.Refusals.{IsLetIn};
-ghost use Rattle.user_agent.specs.SecurePlaces.{ArePlacesOf, ShowPlaces};
+ghost use Rattle.user_agent.specs.SecurePlaces.{ArePlacesOf};
 
-use crate::agent::{is_stopped, rewritten, take_read, take_unread};
-use crate::rules::{Outcome, Refusal, Rules};
+use crate::rules::{Outcome, Rules};
 use crate::secure_places::SecurePlaces;
 use crate::sites::{Initiator, is_cross_site};
+use crate::taking::take;
 use cookie::{Cookie as RawCookie, SameSite};
 use cookie_client::{Client, Stopped};
 use cookie_store::CookieStore;
-use cookie_text::laws::one_outcome;
 use jiff::civil::DateTime;
-use std::alloc::AllocError;
 use url::Url;
 
 /// Why an answer may not set a cookie, by the cookie's `SameSite`.
@@ -112,9 +107,9 @@ fn receive_beside(
         return Err(Stopped(0));
     };
     for (i, line) in lines.iter().enumerate() {
-        match take_line(client, rules, across, secure, url, line, now) {
+        match take(client, rules, across, secure, url, line, now) {
             // There is room for one outcome a line, so this push is not refused.
-            Ok(outcome) => match outcomes.push(outcome) {
+            Ok((outcome, _)) => match outcomes.push(outcome) {
                 Ok(()) => {}
                 Err(_) => return Err(Stopped(0)),
             },
@@ -124,121 +119,12 @@ fn receive_beside(
     Ok(outcomes)
 }
 
-// Takes one line.
-#[tactic(auto, using(crate::proofs::CrossAnswerLemmas::rewritten_from, crate::proofs::AgentLemmas::rewritten_asks, crate::proofs::CrossAnswerLemmas::handed_from, crate::proofs::AgentLemmas::handed_asks,))]
-fn take_line(
-    client: &mut Client,
-    rules: &Rules,
-    across: bool,
-    secure: &SecurePlaces,
-    url: &Url,
-    line: &[u8],
-    now: DateTime,
-) -> Result<OutcomeFor, AllocError>
-    requires { ShowPlaces secure.now (civil_nanos now) client.old.rows }
-    ensures ok { IfOk result (λ outcome. spec.TakesLineFrom rules.now across client.old.suffixes client.old.rows url.now
-        (civil_nanos now) line.now outcome client.new.rows) }
-    ensures err { OnErr result ((client.new.rows ≡ client.old.rows) × AsksForMemory rules.now url.now line.now) }
-    ensures list { client.new.suffixes ≡ client.old.suffixes }
-{
-    if is_stopped(rules, line) {
-        return Ok(OutcomeFor::Judged(Outcome::Refused(Refusal::Control)));
-    }
-    match rewritten(client.alloc(), rules, line, now)? {
-        Some(handed) => take_handed(client, rules, across, secure, url, handed.as_bytes(), now),
-        None => take_handed(client, rules, across, secure, url, line, now),
-    }
-}
-
-// Takes a line as the client gets it, that no control character stops.
-fn take_handed(
-    client: &mut Client,
-    rules: &Rules,
-    across: bool,
-    secure: &SecurePlaces,
-    url: &Url,
-    line: &[u8],
-    now: DateTime,
-) -> Result<OutcomeFor, AllocError>
-    requires { ShowPlaces secure.now (civil_nanos now) client.old.rows }
-    ensures ok { IfOk result (λ outcome. spec.TakesHandedFrom rules.now across client.old.suffixes client.old.rows
-        url.now (civil_nanos now) line.now outcome client.new.rows) }
-    ensures err { OnErr result ((client.new.rows ≡ client.old.rows) × HandedAsks rules.now url.now line.now) }
-    ensures list { client.new.suffixes ≡ client.old.suffixes }
-{
-    one_outcome();
-    let Ok(text) = str::from_utf8(line) else {
-        return take_unread_from(client, rules, across, url, line, now);
-    };
-    match RawCookie::parse(text) {
-        Ok(cookie) => take_read_from(client, rules, across, secure, url, text, &cookie, now),
-        Err(_) => take_unread_from(client, rules, across, url, line, now),
-    }
-}
-
-// The same of a line that is no text, or reads as no cookie: nothing keeps it out, and no rule refuses it.
-fn take_unread_from(
-    client: &mut Client,
-    rules: &Rules,
-    across: bool,
-    url: &Url,
-    line: &[u8],
-    now: DateTime,
-) -> Result<OutcomeFor, AllocError>
-    requires let_in { IsLetIn rules.now client.old.rows url.now (civil_nanos now) line.now }
-    requires set { spec.MaySet rules.now across line.now }
-    ensures ok { IfOk result (λ outcome. spec.TakesHandedFrom rules.now across client.old.suffixes client.old.rows
-        url.now (civil_nanos now) line.now outcome client.new.rows) }
-    ensures err { OnErr result ((client.new.rows ≡ client.old.rows) × HandedAsks rules.now url.now line.now) }
-    ensures list { client.new.suffixes ≡ client.old.suffixes }
-{
-    let outcome = take_unread(client, rules, url, line, now)?;
-    Ok(OutcomeFor::Judged(outcome))
-}
-
-// The same of a line of which the cookie was read.
-fn take_read_from(
-    client: &mut Client,
-    rules: &Rules,
-    across: bool,
-    secure: &SecurePlaces,
-    url: &Url,
-    line: &str,
-    cookie: &RawCookie<'_>,
-    now: DateTime,
-) -> Result<OutcomeFor, AllocError>
-    requires shown { ShowPlaces secure.now (civil_nanos now) client.old.rows }
-    requires read { ReadsPlain line.now (Ok cookie.now) }
-    ensures ok { IfOk result (λ outcome. spec.TakesHandedFrom rules.now across client.old.suffixes client.old.rows
-        url.now (civil_nanos now) line.now outcome client.new.rows) }
-    ensures err { OnErr result ((client.new.rows ≡ client.old.rows) × HandedAsks rules.now url.now line.now) }
-    ensures list { client.new.suffixes ≡ client.old.suffixes }
-{
-    one_outcome();
-    if let Some(cause) = site_refusal(rules, across, cookie) {
-        return Ok(OutcomeFor::KeptOut(cause));
-    }
-    let outcome = take_read(client, rules, secure, url, line, cookie, now)?;
-    Ok(OutcomeFor::Judged(outcome))
-}
-
-/// Why the answer may not set what the line, as the client gets it, reads as, if so.
-pub(crate) fn kept_out(rules: &Rules, across: bool, line: &[u8]) -> Option<SiteRefusal>
-    ensures { MatchOption result (spec.MaySet rules.now across line.now)
-        (λ cause. spec.IsKeptOut rules.now across line.now cause) }
-{
-    one_outcome();
-    let Ok(text) = str::from_utf8(line) else {
-        return None;
-    };
-    match RawCookie::parse(text) {
-        Ok(cookie) => site_refusal(rules, across, &cookie),
-        Err(_) => None,
-    }
-}
-
 // Why the answer may not set the cookie, if so.
-fn site_refusal(rules: &Rules, across: bool, cookie: &RawCookie<'_>) -> Option<SiteRefusal>
+pub(crate) fn site_refusal(
+    rules: &Rules,
+    across: bool,
+    cookie: &RawCookie<'_>,
+) -> Option<SiteRefusal>
     ensures { result ≡ spec.site_refusal rules.now across cookie.now.cookie }
 {
     if across && is_bound(rules.lax_by_default, cookie.same_site()) {

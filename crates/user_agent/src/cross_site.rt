@@ -9,7 +9,6 @@ ghost use Rattle.user_agent.specs.Headers.{IsHeaderBehind};
 ghost use Rattle.user_agent.specs.StrictRuns.{SessionsSetStrictly, StrictNamesAreReadAtHome};
 
 use crate::UserAgent;
-use crate::agent::header_of;
 use crate::headers::{header_at, header_text};
 use crate::rules::Rules;
 use crate::sites::{Initiator, is_cross_site, is_safe_navigation};
@@ -44,7 +43,7 @@ impl UserAgent {
 }
 
 /// The `Cookie` header of a request that is started so from a client behind these rules, as [`UserAgent::header_for`]
-/// gives it: for a client whose rules another keeps.
+/// gives it: for a client whose rules another keeps. It is the one way to a header behind rules.
 ///
 /// # Errors
 ///
@@ -59,30 +58,7 @@ pub fn header_for(
     ensures { IfOk result (λ header. spec.IsHeaderFor rules.now client.now.suffixes client.now.rows url.now
         initiator.now (civil_nanos now) (string_bytes header)) }
 {
-    if is_cross_site(client.store(), url, initiator) {
-        header_across(client.alloc(), client.store(), rules, url, initiator, now)
-    } else {
-        header_of(client, rules, url, now)
-    }
-}
-
-/// The `Cookie` header of a request that is started so from a store behind these rules, as [`UserAgent::header_for`]
-/// gives it: for a store that is no client's.
-///
-/// # Errors
-///
-/// Those of [`UserAgent::header`].
-pub fn store_header_for(
-    alloc: Global,
-    store: &CookieStore,
-    rules: &Rules,
-    url: &Url,
-    initiator: &Initiator<'_>,
-    now: DateTime,
-) -> Result<String, AllocError>
-    ensures { IfOk result (λ header. spec.IsHeaderFor rules.now store.now.suffixes store.now.rows url.now
-        initiator.now (civil_nanos now) (string_bytes header)) }
-{
+    let (alloc, store) = (client.alloc(), client.store());
     if is_cross_site(store, url, initiator) {
         header_across(alloc, store, rules, url, initiator, now)
     } else {

@@ -5,7 +5,6 @@
 //! ```
 #![tactic(auto)]
 
-mod accepting;
 pub mod agent;
 pub mod changes;
 pub mod cross_answer;
@@ -24,10 +23,11 @@ pub mod rules;
 mod secure_places;
 mod secure_wins;
 pub mod sites;
+pub mod taking;
 mod token;
 
 pub use agent::UserAgent;
-pub use changes::{Changes, accept_line_from, accept_line_told};
+pub use changes::Changes;
 pub use cross_answer::{OutcomeFor, SiteRefusal};
 pub use cut_life::with_cut_life;
 pub use known_date::with_known_date;
@@ -36,3 +36,4 @@ pub use plain::is_plain_url;
 pub use rules::{Outcome, Refusal, Rules};
 pub use secure_places::SecurePlaces;
 pub use sites::Initiator;
+pub use taking::take;

@@ -112,6 +112,16 @@ impl Rules {
         }
     }
 
+    /// These rules where nothing is said of what started a request: [`Rules::none_needs_secure`] is off.
+    pub(crate) fn of_no_request(&self) -> Rules
+        ensures { result ≡ spec.of_no_request self.now }
+    {
+        Rules {
+            none_needs_secure: false,
+            ..*self
+        }
+    }
+
     /// Whether the rule is on.
     pub fn has(&self, rule: Refusal) -> bool
         ensures { result ≡ spec.is_on self.now rule }

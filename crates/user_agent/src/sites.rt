@@ -1,5 +1,5 @@
 //! Sites, and which requests are cross-site (the draft that follows RFC 6265, version 15, section 5.2).
-ghost use Rattle.std.specs.Prelude.{◌≡◌, ◌↔◌, IsTrue};
+ghost use Rattle.std.specs.Prelude.{◌≡◌, ◌↔◌, IsTrue, None};
 ghost use Rattle.publicsuffix.specs.Registrable.{GivesRegistrable};
 ghost use Rattle.user_agent.specs.Sites as spec;
 
@@ -27,6 +27,19 @@ pub struct Initiator<'p> {
     pub is_navigation: bool,
     /// Whether its method is safe, as `GET` and `HEAD` are (RFC 9110, section 9.2.1).
     pub is_safe: bool,
+}
+
+impl<'p> Initiator<'p> {
+    /// The user, who goes to the URL: so it is where nothing is said of what starts a request.
+    pub fn user() -> Initiator<'p>
+        ensures { result.page ≡ None }
+    {
+        Initiator {
+            page: None,
+            is_navigation: true,
+            is_safe: true,
+        }
+    }
 }
 
 /// Whether a page starts the request, and isn't of the site of its URL (section 5.2).

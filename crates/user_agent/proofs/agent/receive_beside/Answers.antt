@@ -7,13 +7,13 @@ use Rattle.user_agent.proofs.agent.receive_beside.Goals as goal
 pub loop-i-preserved : goal.loop-i-preserved
 loop-i-preserved c = record {
   all = next_line (λ line. line.now) c.args.rules.now c.args.client.now.suffixes c.args.client.now.rows
-      c.loop-i.client.rows c.take_line.new.client.rows c.loop-i.outcomes.items c.push.new.self.items
-      c.in-Ok-take_line.outcome c.args.url.now (civil_nanos c.args.now) c.args.lines.now c.loop-i.i _
+      c.loop-i.client.rows c.take_own.new.client.rows c.loop-i.outcomes.items c.push.new.self.items
+      c.in-Ok-take_own.outcome c.args.url.now (civil_nanos c.args.now) c.args.lines.now c.loop-i.i _
       c.loop-i-test.true c.loop-i.invariant.all c.loop-i.client.suffixes c.loop-i.invariant.list
-      c.in-Ok-take_line.ensures.ok c.in-Ok-push.ensures.items;
+      c.in-Ok-take_own.ensures.ok c.in-Ok-push.ensures.items;
   places = places_stay c.args.secure.now c.args.rules.now c.loop-i.client.suffixes c.loop-i.client.rows
-      c.take_line.new.client.rows c.args.url.now (civil_nanos c.args.now) _ c.in-Ok-take_line.outcome
-      c.loop-i.invariant.places c.in-Ok-take_line.ensures.ok;
+      c.take_own.new.client.rows c.args.url.now (civil_nanos c.args.now) _ c.in-Ok-take_own.outcome
+      c.loop-i.invariant.places c.in-Ok-take_own.ensures.ok;
   list = search rules;
   count = search rules;
   room = search rules;
@@ -22,6 +22,6 @@ loop-i-preserved c = record {
 pub returns-in-Err-clause-stopped : goal.returns-in-Err-clause-stopped
 returns-in-Err-clause-stopped c =
     inr (stopped_line (λ line. line.now) c.args.rules.now c.args.client.now.suffixes c.args.client.now.rows
-    c.loop-i.client.rows c.take_line.new.client.rows c.loop-i.outcomes.items c.args.url.now (civil_nanos c.args.now)
+    c.loop-i.client.rows c.take_own.new.client.rows c.loop-i.outcomes.items c.args.url.now (civil_nanos c.args.now)
     c.args.lines.now c.loop-i.i _ c.loop-i-test.true c.loop-i.invariant.all c.in-Err.ensures.err.0
     c.in-Err.ensures.err.1)
