@@ -36,12 +36,6 @@ shape_wrong text i h wrong =
     ∙ ap (λ xs. get_or xs i 0) ((bytes_eq-Decides (map blanked text) shape).0 e))))
     (λ (e : has_shape text ≡ false). sym e) (cases_Bool (has_shape text))
 
-pub shape_short : (text : List ℕ) → length text ≢ 20 → false ≡ has_shape text
-shape_short text wrong =
-    ⊎_elim (λ (e : has_shape text ≡ true). absurd (wrong (sym (length-map text blanked)
-    ∙ ap length ((bytes_eq-Decides (map blanked text) shape).0 e))))
-    (λ (e : has_shape text ≡ false). sym e) (cases_Bool (has_shape text))
-
 pub shape_right : (text : List ℕ) → length text ≡ 20 → ((k : ℕ) → k < length text
     → blanked (get_or text k 0) ≡ get_or shape k 0) → true ≡ has_shape text
 shape_right text len each =

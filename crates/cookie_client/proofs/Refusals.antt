@@ -98,8 +98,8 @@ lines_same list rows url now line end new (inr (free, inr text)) stays =
 
 -- ---- a piece of a header that is no cookie, for another cause than want of memory
 
-pub gives_none : {E : Type 0} (b : Bool) (r : Result (Option Seen) E) (piece text : List ℕ) (error : ParseError) → text ≡ piece
-    → ReadsEncoded text (Err error) → IfOk r (λ cookie. cookie ≡ None) → OnOk r (error ≢ OutOfMemory)
+pub gives_none : {E : Type 0} (b : Bool) (r : Result (Option Seen) E) (piece text : List ℕ) (error : ParseError)
+    → text ≡ piece → ReadsEncoded text (Err error) → IfOk r (λ cookie. cookie ≡ None) → OnOk r (error ≢ OutOfMemory)
     → IfOk r (λ cookie. GivesBy b piece (record_in cookie))
 gives_none b (Ok cookie) piece text error same reads none other =
     subst (λ o. GivesBy b piece (record_in o)) (sym none)

@@ -1,7 +1,7 @@
 -- What a session does to its jar.
 use Rattle.std.proofs.Common.{◌≡◌, ℕ, ◌<◌, Bool, true, false, cond, List, [], ◌∷◌, ◌++◌, length, sym, refl, ap, ◌∙◌}
 use Rattle.std.proofs.Common.{subst, ⊎_elim, arith, Option, Some, None, append-nil}
-use Rattle.std.specs.Prelude.{codes, IfSome, MatchOption, option_map, ◌==◌, if◌then◌else◌}
+use Rattle.std.specs.Prelude.{codes, IfSome, MatchOption, option_map, ◌==◌}
 use Rattle.std.specs.Int.{int_min}
 use Rattle.std.specs.List.{AllByRecursion}
 use Rattle.std.specs.Option.{option_or, option_to_list}
@@ -28,12 +28,12 @@ use Rattle.cookie.specs.ByName.{ByName, Lists, HaveOwnNames as EntriesApart, val
 use Rattle.cookie.specs.Jar.{Jar, cookie_of as cookie_in, delta, under_names, with_original, with_change}
 use Rattle.cookie.specs.Jar.{without_change, Removes, empty}
 use Rattle.cookie_client.specs.declared.outcome.SessionError.{SessionError}
-use Rattle.cookie_client.specs.declared.outcome.SessionError.TheVariants.{Year, Rng}
+use Rattle.cookie_client.specs.declared.outcome.SessionError.TheVariants.{Year}
 use Rattle.cookie_client.specs.declared.way.Way.{Way}
 use Rattle.cookie_client.specs.declared.way.Way.TheVariants.{Plain, Host, Secure, Signed, Sealed}
 use Rattle.cookie_client.specs.Jar.{Holds, IsKeptAs, last_in, record_in, sent, taken}
 use Rattle.cookie.specs.Prefix.{host_text, secure_text}
-use Rattle.cookie_client.specs.Ways.{set_refusal, refusal_of, stored_name, then_long, is_too_long}
+use Rattle.cookie_client.specs.Ways.{refusal_of, stored_name, then_long}
 use Rattle.cookie_client.proofs.ReadBack.{trim_graphic}
 use Rattle.cookie_client.proofs.Texts.{same_text, text_is, some_is_not_none}
 
@@ -283,16 +283,3 @@ delta_each Is jar cs all lists =
     each_of_names (λ s. Is s.cookie) cs lists.apart (λ q s is.
     let change = of_change (finmap.get jar.changes q) s (sym (lists.each q) ∙ is) in
     subst (λ (x : Seen). Is x.cookie) change.2 (all q change.0 change.1))
-
--- no refusal that a cookie itself has is the generator's
-pub not_for_the_generator : (way : Way) (c : Record) → set_refusal way c ≡ Some Rng → ⊥
-not_for_the_generator way c e = told (c.name) c.expires (is_too_long way c.name c.value) e
-  where
-    short : (year long : Bool) → then_long (if year then Some Year else None) long ≡ Some Rng → ⊥
-    short true long e = cc
-    short false true e = cc
-    short false false e = cc
-
-    told : (name : List ℕ) (end : Option Expiration) (long : Bool) → then_long (refusal_of name end) long ≡ Some Rng → ⊥
-    told [] end long e = cc
-    told (b ∷ bs) end long e = short (is_short_year end) long e

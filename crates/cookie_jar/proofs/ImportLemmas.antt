@@ -1,26 +1,25 @@
 -- What an import takes of lines and of items.
 use Rattle.std.proofs.Common.{◌≡◌, ◌≤◌, ◌+◌, ◌∙◌, ℕ, ℤ, Bool, true, false, List, [], ◌∷◌, ◌++◌, length, map, Option}
-use Rattle.std.proofs.Common.{Some, Result, Ok, Err, refl, sym, subst, ap, inl, inr, arith, ◌<◌, get_or, suc, take}
-use Rattle.std.specs.Prelude.{◌&&◌, IfOk, IfSome, OnErr, not, option_map, if◌then◌else◌}
+use Rattle.std.proofs.Common.{Some, Ok, Err, refl, sym, subst, ap, inl, inr, arith, ◌<◌, get_or, suc, take}
+use Rattle.std.specs.Prelude.{◌&&◌, IfSome, not, option_map, if◌then◌else◌}
 use Rattle.std.specs.List.{AllByRecursion, list_any}
 use Rattle.std.proofs.lemmas.Grind.{flat_map-append}
 use Rattle.std.proofs.lemmas.List.{append-nil, length-map, map-append, take_more}
 use Rattle.std.proofs.lemmas.List.Elements.{filter-append}
 use Rattle.cookie_store.specs.Given.{ArePicked}
 use Rattle.cookie_store.specs.Placing.{loaded, put_all}
-use Rattle.cookie_store.specs.Rows.{Row, Store, behind_last, has_domain_of, has_key_of, has_place_of, inserted}
+use Rattle.cookie_store.specs.Rows.{Row, behind_last, has_domain_of, has_key_of, has_place_of, inserted}
 use Rattle.cookie_store.specs.Rows.{is_live, live, put, replaced}
 use Rattle.cookie_store.specs.StoredCookie.{stored_of}
 use Rattle.cookie_store.specs.declared.stored_cookie.Cookie.{Cookie}
 use Rattle.cookie_client.proofs.PutCookies.{picked_whole}
 use Rattle.cookie_jar.specs.Entries.{Entry, entry_text}
 use Rattle.cookie_jar.specs.Importing.{AreRefused, ImportText, Imports, ImportsEntries, IsUntaken, cause_of}
-use Rattle.cookie_jar.specs.Importing.{expired_of, import_text, lone, refused_pair, row_in, rows_in}
+use Rattle.cookie_jar.specs.Importing.{expired_of, lone, refused_pair, row_in, rows_in}
 use Rattle.cookie_jar.specs.declared.entries.Entry.{Entry as CodeEntry}
 use Rattle.cookie_jar.specs.Keeping.{AreKept, IsKept, IsTaken}
 use Rattle.cookie_jar.specs.declared.form.Form.{Form}
 use Rattle.cookie_jar.specs.declared.importing.Cause.{Cause}
-use Rattle.cookie_jar.specs.declared.importing.Imported.{Imported}
 use Rattle.cookie_jar.specs.declared.importing.Refused.{Refused}
 use Rattle.cookie_jar.proofs.RowLemmas.{picked_all, placed_all, taken_kept}
 
@@ -253,10 +252,7 @@ entries_kept form now entries old told new kept done =
     (loaded_all IsKept now done.kept (taken_kept form done.kept
     (picked_all (IsTaken form) (live now (rows_in entries)) done.kept done.are_kept))))
 
-pub import_held : {E : Type 0} (r : Result Imported E) (form held : Form) (now : ℤ) (text : List ℕ)
-    (before after : Store) → AreKept before.rows
-    → IfOk r (λ done. Imports form held now text before.rows (import_text done) after.rows)
-    → OnErr r (after ≡ before) → AreKept after.rows
-import_held (Ok done) form held now text before after kept (entries, gives, imports) same =
-    entries_kept held now entries before.rows (import_text done) after.rows kept imports
-import_held (Err e) form held now text before after kept ok same = subst (λ (s : Store). AreKept s.rows) (sym same) kept
+pub import_kept : (form held : Form) (now : ℤ) (text : List ℕ) (before after : List Row) (done : ImportText)
+    → AreKept before → Imports form held now text before done after → AreKept after
+import_kept form held now text before after done kept (entries, gives, imports) =
+    entries_kept held now entries before done after kept imports

@@ -1,19 +1,15 @@
 -- Rows that a jar keeps.
-use Rattle.std.proofs.Common.{◌≡◌, ◌∷◌, [], ◌++◌, ◌∙◌, ℕ, ℤ, Bool, true, false, List, map, ap, sym, subst, refl}
-use Rattle.std.specs.Prelude.{◌||◌, ◌↔◌, IfOk, IsTrue, Result, Ok, Err, Option, Some, None}
+use Rattle.std.proofs.Common.{◌≡◌, ◌∷◌, [], ◌++◌, ◌∙◌, ℕ, Bool, true, false, List, map, sym, refl}
+use Rattle.std.specs.Prelude.{◌||◌, ◌↔◌, IsTrue, Option, Some, None}
 use Rattle.std.specs.List.{AllByRecursion}
 use Rattle.std.proofs.lemmas.Bool.{both_ways, or_from, or_parts}
-use Rattle.url.specs.Parts.{Parts}
-use Rattle.cookie_store.specs.Given.{IsGiven, pair_of}
-use Rattle.cookie_store.specs.Rows.{Row, Store, domain_text}
-use Rattle.cookie_client.specs.Header.{IsHeader, header_of}
+use Rattle.cookie_store.specs.Given.{pair_of}
+use Rattle.cookie_store.specs.Rows.{Row, domain_text}
+use Rattle.cookie_client.specs.Header.{header_of}
 use Rattle.cookie_client.specs.HostPrefix.{AreHeldRightly}
 use Rattle.cookie_client.specs.Keeping.{HaveReadPairs}
-use Rattle.cookie_client.proofs.HostRows.{picked_keeps}
-use Rattle.cookie_client.proofs.RowLists.{all_longest}
 use Rattle.cookies_txt.specs.declared.error.RowFault.{RowFault}
 use Rattle.cookie_jar.specs.Keeping.{AreKept, IsClean, IsKept, IsTaken, fault_in, has_control, is_control}
-use Rattle.cookie_jar.specs.Told.{header_line}
 use Rattle.cookie_jar.specs.declared.form.Form.{Form}
 
 -- a test that holds where another does, and only there, is that one
@@ -84,22 +80,3 @@ all_clean (r ∷ []) clean = pair_clean r clean.0
 all_clean (r ∷ s ∷ rs) clean =
     join_clean (r.raw.cookie.name ++ 61 ∷ r.raw.cookie.value) (59 ∷ 32 ∷ header_of (map pair_of (s ∷ rs)))
     (pair_clean r clean.0) (all_clean (s ∷ rs) clean.1)
-
--- the header of rows that are kept
-pub header_clean : (rows : List Row) (url : Parts) (now : ℤ) (header : List ℕ) → AreKept rows
-    → IsHeader rows url now header → has_control header ≡ false
-header_clean rows url now header kept is =
-    subst (λ h. has_control h ≡ false) (sym is.printed)
-    (all_clean is.ordered (all_longest IsClean is.given is.ordered is.longest
-    (picked_keeps (λ row. IsGiven row url now) IsClean rows is.given is.are_given (clean_of rows kept))))
-
--- and its line
-pub clean_line : {A E : Type 0} (r : Result A E) (bytes : A → List ℕ) (store jar : Store) (url : Parts) (now : ℤ)
-    (header text : List ℕ) → store ≡ jar → AreKept jar.rows → IsHeader store.rows url now header → text ≡ header
-    → IfOk r (λ line. bytes line ≡ header_line text)
-    → IfOk r (λ line. (h : List ℕ) × IsHeader jar.rows url now h × (bytes line ≡ header_line h)
-    × (has_control h ≡ false))
-clean_line (Ok line) bytes store jar url now header text same kept is copied printed =
-    let own = subst (λ (s : Store). IsHeader s.rows url now header) same is in
-    (header, own, printed ∙ ap header_line copied, header_clean jar.rows url now header kept own)
-clean_line (Err e) bytes store jar url now header text same kept is copied printed = tt

@@ -1,5 +1,5 @@
 -- What a jar does with lines one after another.
-use Rattle.std.proofs.Common.{◌≡◌, ◌+◌, ◌<◌, ◌∷◌, [], ◌++◌, ℕ, ℤ, Bool, true, false, List, Option, Some, None, length}
+use Rattle.std.proofs.Common.{◌≡◌, ◌+◌, ◌<◌, ◌∷◌, [], ◌++◌, ℕ, ℤ, Bool, true, false, List, length}
 use Rattle.std.proofs.Common.{take, get_or, sym, refl, ap, subst, inl, inr, Result, Ok, Err, ⊎_elim}
 use Rattle.std.specs.Prelude.{map, IfOk, IfErr}
 use Rattle.std.specs.List.{AllByRecursion}
@@ -24,15 +24,18 @@ use Rattle.cookie_client.proofs.Receiving.{map_at, map_take}
 use Rattle.user_agent.specs.Agent.{AsksForMemory, IsHandedOn, NoRulesAreTheClient, TakesHanded, TakesLine as AgentTakes}
 use Rattle.user_agent.specs.Controls.{FreeLinesRead, FreeLinesStay}
 use Rattle.user_agent.specs.CrossAnswers.{TakesLineFrom}
+use Rattle.user_agent.specs.Refusals.{no_rules}
 use Rattle.user_agent.specs.declared.cross_answer.OutcomeFor.{OutcomeFor}
 use Rattle.user_agent.specs.declared.cross_answer.OutcomeFor.TheVariants.{Judged, KeptOut as IsKeptOut}
+use Rattle.user_agent.specs.declared.cross_answer.SiteRefusal.{SiteRefusal}
 use Rattle.user_agent.specs.declared.rules.Outcome.{Outcome}
-use Rattle.user_agent.specs.declared.rules.Outcome.TheVariants.{Taken}
+use Rattle.user_agent.specs.declared.rules.Outcome.TheVariants.{Refused, Taken}
+use Rattle.user_agent.specs.declared.rules.Refusal.TheVariants.{Control as ByControl}
 use Rattle.user_agent.specs.declared.rules.Rules.{Rules}
 use Rattle.user_agent.specs.declared.sites.Initiator.{Initiator}
 use Rattle.cookie_jar.specs.Keeping.{AreKept, IsClean, has_control}
 use Rattle.cookie_jar.specs.Laws.{WithoutRules}
-use Rattle.cookie_jar.specs.Taking.{AgentTakesFrom, HasControl, IsStopped, IsStoppedFor, StopsAtLine, TakesAll}
+use Rattle.cookie_jar.specs.Taking.{HasControl, IsStopped, IsStoppedFor, StopsAtLine, TakesAll}
 use Rattle.cookie_jar.specs.Taking.{TakesFor, TakesLine}
 use Rattle.cookie_jar.specs.declared.form.Form.{Form}
 use Rattle.cookie_jar.specs.declared.taking.End.{End}
@@ -42,7 +45,7 @@ use Rattle.cookie_jar.proofs.KeepLemmas.{clean_of, held_of, kept_from, pairs_of}
 
 -- ---- line by line
 
-all_push : (form : Form) (rules : Rules) (across : Option Bool) (list : List Rule) (rows mid new : List Row)
+all_push : (form : Form) (rules : Rules) (across : Bool) (list : List Rule) (rows mid new : List Row)
     (url : Parts) (now : ℤ)
     (lines : List (List ℕ)) (ends : List End) (line : List ℕ) (end : End)
     → TakesAll form rules across list rows url now lines ends mid
@@ -58,7 +61,7 @@ all_push form rules across list rows mid new url now (l ∷ lines) [] line end h
 all_push form rules across list rows mid new url now (l ∷ lines) (e ∷ ends) line end h a =
     (h.0, h.1, all_push form rules across list h.0 mid new url now lines ends line end h.2 a)
 
-pub next_line : {A : Type 0} (f : A → List ℕ) (form : Form) (rules : Rules) (across : Option Bool) (list : List Rule)
+pub next_line : {A : Type 0} (f : A → List ℕ) (form : Form) (rules : Rules) (across : Bool) (list : List Rule)
     (start mid new : List Row) (old ends : List End) (end : End) (url : Parts) (now : ℤ) (xs : List A) (i : ℕ)
     (d : A) → i < length xs → TakesAll form rules across list start url now (take i (map f xs)) old mid
     → (here : List Rule) → here ≡ list
@@ -70,7 +73,7 @@ next_line f form rules across list start mid new old ends end url now xs i d h a
     (all_push form rules across list start mid new url now (take i (map f xs)) old (f (get_or xs i d)) end all
     (subst (λ l. TakesLine form rules across l mid url now (f (get_or xs i d)) end new) same one)))
 
-pub stopped_line : {A : Type 0} (f : A → List ℕ) (form : Form) (rules : Rules) (across : Option Bool) (list : List Rule)
+pub stopped_line : {A : Type 0} (f : A → List ℕ) (form : Form) (rules : Rules) (across : Bool) (list : List Rule)
     (start mid new : List Row) (old : List End) (url : Parts) (now : ℤ) (xs : List A) (i : ℕ) (d : A) → i < length xs
     → TakesAll form rules across list start url now (take i (map f xs)) old mid → new ≡ mid
     → AsksForMemory rules url (f (get_or xs i d))
@@ -115,7 +118,7 @@ module _ (read : FreeLinesRead) (list : List Rule) (url : Parts) (valid : IsVali
 -- ---- the rows behind lines are kept
 
 module _ (law : AnswersHoldRightly) (stay : FreeLinesStay) (read : FreeLinesRead) (form : Form) (rules : Rules)
-    (across : Option Bool) (list : List Rule) (url : Parts) (valid : IsValid url) (now : ℤ) where
+    (across : Bool) (list : List Rule) (url : Parts) (valid : IsValid url) (now : ℤ) where
   accepts_kept : (line : List ℕ) (rows : List Row) (end : LineEnd) (new : List Row) → has_control line ≡ false
       → AreKept rows → Accepts list rows url now line end new → AreKept new
   accepts_kept line rows end new free kept accepts = kept_from new
@@ -131,37 +134,22 @@ module _ (law : AnswersHoldRightly) (stay : FreeLinesStay) (read : FreeLinesRead
   handed_kept line handed rows outcome new free kept is (inr (let_in, (end, accepts, told))) =
       accepts_kept handed rows end new (stay rules now line handed free is) kept accepts
 
-  agent_kept : (line : List ℕ) (rows : List Row) (outcome : Outcome) (new : List Row) → has_control line ≡ false
-      → AreKept rows → AgentTakes rules list rows url now line outcome new → AreKept new
-  agent_kept line rows outcome new free kept (inl (stopped, is, same)) = subst AreKept (sym same) kept
-  agent_kept line rows outcome new free kept (inr (passed, (handed, is, takes))) =
-      handed_kept line handed rows outcome new free kept is takes
-
-  -- where it is said whether the answer comes across sites
-  across_kept : (b : Bool) (line : List ℕ) (rows : List Row) (outcome : OutcomeFor) (new : List Row)
-      → has_control line ≡ false → AreKept rows → TakesLineFrom rules b list rows url now line outcome new
-      → AreKept new
-  across_kept b line rows outcome new free kept (inl (stopped, is, same)) = subst AreKept (sym same) kept
-  across_kept b line rows outcome new free kept (inr (passed, (handed, is, inl (cause, out, told, same)))) =
+  from_kept : (line : List ℕ) (rows : List Row) (outcome : OutcomeFor) (new : List Row) → has_control line ≡ false
+      → AreKept rows → TakesLineFrom rules across list rows url now line outcome new → AreKept new
+  from_kept line rows outcome new free kept (inl (stopped, is, same)) = subst AreKept (sym same) kept
+  from_kept line rows outcome new free kept (inr (passed, (handed, is, inl (cause, out, told, same)))) =
       subst AreKept (sym same) kept
-  across_kept b line rows outcome new free kept (inr (passed, (handed, is, inr (may, (judged, takes, told))))) =
+  from_kept line rows outcome new free kept (inr (passed, (handed, is, inr (may, (judged, takes, told))))) =
       handed_kept line handed rows judged new free kept is takes
-
-  from_kept : (o : Option Bool) (line : List ℕ) (rows : List Row) (outcome : OutcomeFor) (new : List Row)
-      → has_control line ≡ false → AreKept rows → AgentTakesFrom rules o list rows url now line outcome new
-      → AreKept new
-  from_kept (Some b) line rows outcome new free kept takes = across_kept b line rows outcome new free kept takes
-  from_kept None line rows (Judged outcome) new free kept takes = agent_kept line rows outcome new free kept takes
-  from_kept None line rows (IsKeptOut cause) new free kept takes = absurd takes
 
   line_kept : (line : List ℕ) (rows : List Row) (end : End) (new : List Row) → AreKept rows
       → TakesLine form rules across list rows url now line end new → AreKept new
   line_kept line rows Control new kept takes = subst AreKept (sym takes.1) kept
   line_kept line rows Tab new kept takes = subst AreKept (sym takes.2) kept
   line_kept line rows (Line outcome changes) new kept takes =
-      from_kept across line rows (Judged outcome) new (free_of line takes.0) kept takes.2
+      from_kept line rows (Judged outcome) new (free_of line takes.0) kept takes.2
   line_kept line rows (KeptOut cause) new kept takes =
-      from_kept across line rows (IsKeptOut cause) new (free_of line takes.0) kept takes.2
+      from_kept line rows (IsKeptOut cause) new (free_of line takes.0) kept takes.2
 
   all_kept : (lines : List (List ℕ)) (rows : List Row) (ends : List End) (new : List Row) → AreKept rows
       → TakesAll form rules across list rows url now lines ends new → AreKept new
@@ -176,30 +164,22 @@ module _ (law : AnswersHoldRightly) (stay : FreeLinesStay) (read : FreeLinesRead
   stopped_kept lines rows n new kept (inr stops) =
       all_kept (take stops.before lines) rows stops.ends new kept stops.taken
 
-  -- however receiving ended
-  pub received_kept : {A B : Type 0} (r : Result A B) (all : A → List End) (at : B → ℕ) (lines : List (List ℕ))
-      (rows new : List Row) → AreKept rows
-      → IfOk r (λ ends. TakesAll form rules across list rows url now lines (all ends) new)
-      → IfErr r (λ stopped. IsStopped form rules across list rows url now lines (at stopped) new) → AreKept new
-  received_kept (Ok ends) all at lines rows new kept h g = all_kept lines rows (all ends) new kept h
-  received_kept (Err stopped) all at lines rows new kept h g = stopped_kept lines rows (at stopped) new kept g
-
 -- ---- by what started the request
 
 module _ (law : AnswersHoldRightly) (stay : FreeLinesStay) (read : FreeLinesRead) (form : Form) (rules : Rules)
     (list : List Rule) (url : Parts) (valid : IsValid url) (now : ℤ) (initiator : Initiator) where
-  pub received_kept_for : {A B : Type 0} (r : Result A B) (all : A → List End) (at : B → ℕ) (lines : List (List ℕ))
+  pub received_kept : {A B : Type 0} (r : Result A B) (all : A → List End) (at : B → ℕ) (lines : List (List ℕ))
       (rows new : List Row) → AreKept rows
       → IfOk r (λ ends. TakesFor form rules list rows url initiator now lines (all ends) new)
       → IfErr r (λ stopped. IsStoppedFor form rules list rows url initiator now lines (at stopped) new) → AreKept new
-  received_kept_for (Ok ends) all at lines rows new kept (inl takes) g =
-      all_kept law stay read form rules (Some true) list url valid now lines rows (all ends) new kept takes.1
-  received_kept_for (Ok ends) all at lines rows new kept (inr takes) g =
-      all_kept law stay read form rules (Some false) list url valid now lines rows (all ends) new kept takes.1
-  received_kept_for (Err stopped) all at lines rows new kept h (inl stops) =
-      stopped_kept law stay read form rules (Some true) list url valid now lines rows (at stopped) new kept stops.1
-  received_kept_for (Err stopped) all at lines rows new kept h (inr stops) =
-      stopped_kept law stay read form rules (Some false) list url valid now lines rows (at stopped) new kept stops.1
+  received_kept (Ok ends) all at lines rows new kept (inl takes) g =
+      all_kept law stay read form rules true list url valid now lines rows (all ends) new kept takes.1
+  received_kept (Ok ends) all at lines rows new kept (inr takes) g =
+      all_kept law stay read form rules false list url valid now lines rows (all ends) new kept takes.1
+  received_kept (Err stopped) all at lines rows new kept h (inl stops) =
+      stopped_kept law stay read form rules true list url valid now lines rows (at stopped) new kept stops.1
+  received_kept (Err stopped) all at lines rows new kept h (inr stops) =
+      stopped_kept law stay read form rules false list url valid now lines rows (at stopped) new kept stops.1
 
 -- ---- without rules
 
@@ -211,7 +191,34 @@ one_end list rows new url now line outcome (end ∷ ends) same (mid, accepts, re
     let first : outcome ≡ Taken end = cc in
     (end, first, subst (Accepts list rows url now line end) (sym rest.1) accepts)
 
+judged_is : (a b : Outcome) → Judged a ≡ Judged b → a ≡ b
+judged_is a b e = cc
+
+judged_apart : (outcome : Outcome) (cause : SiteRefusal) → Judged outcome ≡ IsKeptOut cause → ⊥
+judged_apart outcome cause e = cc
+
+-- a line that isn't kept out is taken as where nothing is said of the request
+judged_takes : (rules : Rules) (across : Bool) (list : List Rule) (rows new : List Row) (url : Parts) (now : ℤ)
+    (line : List ℕ) (outcome : Outcome) → TakesLineFrom rules across list rows url now line (Judged outcome) new
+    → AgentTakes rules list rows url now line outcome new
+judged_takes rules across list rows new url now line outcome (inl (stopped, is, same)) =
+    inl (stopped, judged_is outcome (Refused ByControl) is, same)
+judged_takes rules across list rows new url now line outcome
+    (inr (passed, (handed, is, inl (cause, out, told, same)))) = absurd (judged_apart outcome cause told)
+judged_takes rules across list rows new url now line outcome
+    (inr (passed, (handed, is, inr (may, (judged, takes, told))))) =
+    inr (
+      passed,
+      (
+        handed,
+        is,
+        subst (λ o. TakesHanded rules list rows url now handed o new)
+            (sym (judged_is outcome judged told)) takes,
+      ),
+    )
+
 pub without_rules : NoRulesAreTheClient → WithoutRules
-without_rules law form list rows url now line outcome changes new takes =
-    let (ends, same, all) = law list rows url now (line ∷ []) (outcome ∷ []) new (new, takes.2, (refl, refl)) in
+without_rules law form across list rows url now line outcome changes new takes =
+    let own = judged_takes no_rules across list rows new url now line outcome takes.2 in
+    let (ends, same, all) = law list rows url now (line ∷ []) (outcome ∷ []) new (new, own, (refl, refl)) in
     one_end list rows new url now line outcome ends same all

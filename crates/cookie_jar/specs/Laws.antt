@@ -1,5 +1,5 @@
 -- What a jar's text is read as again, and what a jar is without rules (this repository's own).
-use Rattle.std.specs.Prelude.{◌≡◌, ℕ, ℤ, List, None}
+use Rattle.std.specs.Prelude.{◌≡◌, ℕ, ℤ, Bool, List}
 use Rattle.std.specs.Str.{IsUtf8}
 use Rattle.publicsuffix.specs.Rules.{Rule}
 use Rattle.url.specs.Parts.{Parts}
@@ -52,7 +52,7 @@ SavedTextsAreRead =
 -- With no rule on, a line that the jar itself doesn't refuse is taken exactly as by a client.
 abbrev pub WithoutRules : Type 0
 WithoutRules =
-    (form : Form) (list : List Rule) (rows : List Row) (url : Parts) (now : ℤ) (line : List ℕ) (outcome : Outcome)
-    (changes : Changes) (new : List Row)
-    → TakesLine form no_rules None list rows url now line (Line outcome changes) new
+    (form : Form) (across : Bool) (list : List Rule) (rows : List Row) (url : Parts) (now : ℤ) (line : List ℕ)
+    (outcome : Outcome) (changes : Changes) (new : List Row)
+    → TakesLine form no_rules across list rows url now line (Line outcome changes) new
     → (end : LineEnd) × (outcome ≡ Taken end) × Accepts list rows url now line end new

@@ -1,12 +1,12 @@
 -- What becomes of the `Set-Cookie` lines of an answer in a jar (RFC 6265, 5.2 and 5.3; the draft that follows it, 5.6).
-use Rattle.std.specs.Prelude.{◌≡◌, ◌==◌, ◌⊎◌, ◌+◌, ◌<◌, ◌&&◌, ℕ, ℤ, Bool, true, false, List, [], ◌∷◌, Option, Some}
-use Rattle.std.specs.Prelude.{None, length, take, get_or}
+use Rattle.std.specs.Prelude.{◌≡◌, ◌==◌, ◌⊎◌, ◌+◌, ◌<◌, ◌&&◌, ℕ, ℤ, Bool, true, false, List, [], ◌∷◌}
+use Rattle.std.specs.Prelude.{length, take, get_or}
 use Rattle.std.specs.List.{list_any}
 use Rattle.publicsuffix.specs.Rules.{Rule}
 use Rattle.url.specs.Parts.{Parts}
 use Rattle.cookie_store.specs.Rows.{Row}
 use Rattle.cookies_txt.specs.Layout.{tab}
-use Rattle.user_agent.specs.Agent.{AsksForMemory, TakesLine as AgentTakes}
+use Rattle.user_agent.specs.Agent.{AsksForMemory}
 use Rattle.user_agent.specs.Changes.{AreChanges}
 use Rattle.user_agent.specs.CrossAnswers.{ByRequest, TakesLineFrom}
 use Rattle.user_agent.specs.declared.cross_answer.OutcomeFor.{OutcomeFor}
@@ -32,33 +32,22 @@ parts_by_tabs Txt = true
 abbrev pub has_tab : List ℕ → Bool
 has_tab line = list_any (λ b. b == tab) line
 
--- How a user agent of these rules takes a line, by what is said of the request: whether its answer comes across sites,
--- or nothing. Where nothing is, no line is kept out.
-abbrev pub AgentTakesFrom : Rules → Option Bool → List Rule → List Row → Parts → ℤ → List ℕ → OutcomeFor → List Row
-    → Type 0
-AgentTakesFrom rules (Some across) list rows url now line outcome new =
-    TakesLineFrom rules across list rows url now line outcome new
-AgentTakesFrom rules None list rows url now line (Judged outcome) new =
-    AgentTakes rules list rows url now line outcome new
-AgentTakesFrom rules None list rows url now line (IsKeptOut cause) new = ⊥
-
--- What becomes of a line from the URL at the moment in a jar of this form: a control character, and then a tab where
--- the form's lines are parted by tabs, has it refused, and nothing changes; any other goes as a user agent of these
--- rules takes it, and those of them that change it are told.
-abbrev pub TakesLine : Form → Rules → Option Bool → List Rule → List Row → Parts → ℤ → List ℕ → End → List Row
-    → Type 0
+-- What becomes of a line from the URL at the moment in a jar of this form, by whether its answer comes across sites: a
+-- control character, and then a tab where the form's lines are parted by tabs, has it refused, and nothing changes; any
+-- other goes as a user agent of these rules takes it, and those of them that change it are told.
+abbrev pub TakesLine : Form → Rules → Bool → List Rule → List Row → Parts → ℤ → List ℕ → End → List Row → Type 0
 TakesLine form rules across list rows url now line Control new = HasControl line × (new ≡ rows)
 TakesLine form rules across list rows url now line Tab new =
     (¬ (HasControl line)) × ((parts_by_tabs form && has_tab line) ≡ true) × (new ≡ rows)
 TakesLine form rules across list rows url now line (Line outcome changes) new =
     (¬ (HasControl line)) × ((parts_by_tabs form && has_tab line) ≡ false)
-    × AgentTakesFrom rules across list rows url now line (Judged outcome) new × AreChanges rules now line changes
+    × TakesLineFrom rules across list rows url now line (Judged outcome) new × AreChanges rules now line changes
 TakesLine form rules across list rows url now line (KeptOut cause) new =
     (¬ (HasControl line)) × ((parts_by_tabs form && has_tab line) ≡ false)
-    × AgentTakesFrom rules across list rows url now line (IsKeptOut cause) new
+    × TakesLineFrom rules across list rows url now line (IsKeptOut cause) new
 
 -- what becomes of each of the lines, and the rows after them
-abbrev pub TakesAll : Form → Rules → Option Bool → List Rule → List Row → Parts → ℤ → List (List ℕ) → List End
+abbrev pub TakesAll : Form → Rules → Bool → List Rule → List Row → Parts → ℤ → List (List ℕ) → List End
     → List Row → Type 0
 TakesAll form rules across list rows url now [] ends new = (ends ≡ []) × (new ≡ rows)
 TakesAll form rules across list rows url now (line ∷ lines) [] new = ⊥
@@ -67,7 +56,7 @@ TakesAll form rules across list rows url now (line ∷ lines) (end ∷ ends) new
     × TakesAll form rules across list mid url now lines ends new
 
 -- memory was refused at line n, counted from 1, once those before it were taken
-pub record StopsAtLine (form : Form) (rules : Rules) (across : Option Bool) (list : List Rule) (rows : List Row)
+pub record StopsAtLine (form : Form) (rules : Rules) (across : Bool) (list : List Rule) (rows : List Row)
     (url : Parts) (now : ℤ) (lines : List (List ℕ)) (n : ℕ) (new : List Row) : Type 0 where
   pub before : ℕ
   pub number : n ≡ before + 1
@@ -77,18 +66,18 @@ pub record StopsAtLine (form : Form) (rules : Rules) (across : Option Bool) (lis
   pub asks : AsksForMemory rules url (get_or lines before [])
 
 -- so, or before any line was looked at, which is 0
-abbrev pub IsStopped : Form → Rules → Option Bool → List Rule → List Row → Parts → ℤ → List (List ℕ) → ℕ → List Row
+abbrev pub IsStopped : Form → Rules → Bool → List Rule → List Row → Parts → ℤ → List (List ℕ) → ℕ → List Row
     → Type 0
 IsStopped form rules across list rows url now lines n new =
     ((n ≡ 0) × (new ≡ rows)) ⊎ StopsAtLine form rules across list rows url now lines n new
 
--- so of an answer to a request that is started so
+-- by what started the request
 abbrev pub TakesFor : Form → Rules → List Rule → List Row → Parts → Initiator → ℤ → List (List ℕ) → List End
     → List Row → Type 0
 TakesFor form rules list rows url initiator now lines ends new =
-    ByRequest list url initiator (λ across. TakesAll form rules (Some across) list rows url now lines ends new)
+    ByRequest list url initiator (λ across. TakesAll form rules across list rows url now lines ends new)
 
 abbrev pub IsStoppedFor : Form → Rules → List Rule → List Row → Parts → Initiator → ℤ → List (List ℕ) → ℕ → List Row
     → Type 0
 IsStoppedFor form rules list rows url initiator now lines n new =
-    ByRequest list url initiator (λ across. IsStopped form rules (Some across) list rows url now lines n new)
+    ByRequest list url initiator (λ across. IsStopped form rules across list rows url now lines n new)

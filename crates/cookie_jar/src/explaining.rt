@@ -13,7 +13,7 @@ use crate::report::{push_pair, push_pieces};
 use crate::taking::{End, take_line};
 use crate::terminal::Shown;
 use crate::told::end_text;
-use cookie_client::LineEnd;
+use cookie_client::{Client, LineEnd};
 use cookie_store::{Cookie, CookieDomain, CookieError, CookieStore, StoreAction};
 use jiff::civil::DateTime;
 use std::alloc::{AllocError, Global};
@@ -27,39 +27,47 @@ pub struct Explained {
     pub handed: Option<String>,
     /// What becomes of it.
     pub end: End,
-    /// The rows that there would be.
-    pub rows: CookieStore,
+    /// The client of the rows that there would be.
+    pub rows: Client,
     /// All of that, and what each piece of it says, in lines.
     pub told: Shown,
 }
 
-/// Which rules change the line, what it says then, what would become of it at `now` in the store of a jar of this form
-/// behind these rules and by which rule, and which requests would get it.
+/// Which rules change the line, what it says then, what would become of it at `now` in a jar of this form with this
+/// client behind these rules and by which rule, and which requests would get it.
 ///
 /// # Errors
 ///
 /// `AllocError`, for want of memory.
 pub(crate) fn explain_line(
-    alloc: Global,
-    store: &CookieStore,
+    client: &Client,
     form: Form,
     rules: &Rules,
     url: &Url,
     line: &[u8],
     now: DateTime,
 ) -> Result<Explained, AllocError>
-    ensures becomes { IfOk result (λ explained. spec.Becomes form rules.now store.now url.now (civil_nanos now) line.now
+    ensures becomes { IfOk result (λ explained. spec.Becomes form rules.now client.now url.now (civil_nanos now) line.now
         (option_map string_bytes explained.handed) explained.end explained.rows.rows) }
     ensures shows { IfOk result (λ explained. ShowsNoControl explained.told) }
 {
+    let alloc = client.alloc();
     let mut told = Shown::new(alloc);
     let handed = push_said(alloc, &mut told, rules, line, now)?;
-    let mut rows = store.clone()?;
+    let mut rows = Client::of(alloc, client.store().clone()?);
     let secure = SecurePlaces::none();
-    let end = take_line(alloc, &mut rows, form, rules, None, &secure, url, line, now)?;
+    let end = take_line(&mut rows, form, rules, false, &secure, url, line, now)?;
     told.words(end_text(end))?;
     told.words(rule_text(end))?;
-    push_sent(alloc, &mut told, &rows, url, handed.as_deref(), end, now)?;
+    push_sent(
+        alloc,
+        &mut told,
+        rows.store(),
+        url,
+        handed.as_deref(),
+        end,
+        now,
+    )?;
     Ok(Explained {
         handed,
         end,

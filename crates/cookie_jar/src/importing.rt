@@ -1,5 +1,5 @@
 //! What an import takes of the lines of a `cookies.txt`, or of the items of a list of RON or JSON, each read by itself.
-ghost use Rattle.std.specs.Prelude.{◌≡◌, ◌∷◌, [], IfErr, IfOk, IfSome, IsNone, Ok, OnErr, map, option_map};
+ghost use Rattle.std.specs.Prelude.{◌≡◌, ◌∷◌, [], IfErr, IfOk, IfSome, IsNone, Ok, map, option_map};
 ghost use Rattle.std.specs.Result.{result_map_both};
 ghost use Rattle.jiff.specs.Words.{civil_nanos};
 ghost use Rattle.cookie_store.specs.Given.{ArePicked};
@@ -62,26 +62,24 @@ pub struct Imported {
     pub refused: Vec<Refused>,
 }
 
-/// Puts the rows of the lines or the items of a text behind those of the store of a jar that is saved in the form
+/// The rows of a store, and behind them those of the lines or the items of a text for a jar that is saved in the form
 /// `held`: without those that are expired at `now` and those that it doesn't keep or that the form can't hold, and of
-/// two with one key the later in the place of the earlier.
+/// two with one key the later in the place of the earlier. Tells what was taken.
 ///
 /// # Errors
 ///
-/// `NoList` where a text of RON or JSON is no list, `OutOfMemory`. The store is then as it was.
+/// `NoList` where a text of RON or JSON is no list, `OutOfMemory`.
 pub(crate) fn import_text(
     alloc: Global,
-    store: &mut CookieStore,
+    store: &CookieStore,
     form: Form,
     held: Form,
     text: &[u8],
     now: DateTime,
-) -> Result<Imported, ImportError>
-    ensures ok { IfOk result (λ done. spec.Imports form held (civil_nanos now) text.now store.old.rows
-        (spec.import_text done) store.new.rows) }
+) -> Result<(Imported, CookieStore), ImportError>
+    ensures ok { IfOk result (λ done. spec.Imports form held (civil_nanos now) text.now store.now.rows
+        (spec.import_text done.0) done.1.rows) }
     ensures err { IfErr result (IsRefusal form text.now) }
-    ensures same { OnErr result (store.new ≡ store.old) }
-    ensures list { store.new.suffixes ≡ store.old.suffixes }
 {
     let entries = entries_of(alloc, form, text)?;
     Ok(import_entries(alloc, store, held, entries, now)?)
@@ -89,15 +87,13 @@ pub(crate) fn import_text(
 
 fn import_entries(
     alloc: Global,
-    store: &mut CookieStore,
+    store: &CookieStore,
     form: Form,
     entries: Vec<Entry>,
     now: DateTime,
-) -> Result<Imported, AllocError>
-    ensures ok { IfOk result (λ done. spec.ImportsEntries form (civil_nanos now)
-        (map entry_text entries.items) store.old.rows (spec.import_text done) store.new.rows) }
-    ensures same { OnErr result (store.new ≡ store.old) }
-    ensures list { store.new.suffixes ≡ store.old.suffixes }
+) -> Result<(Imported, CookieStore), AllocError>
+    ensures { IfOk result (λ done. spec.ImportsEntries form (civil_nanos now)
+        (map entry_text entries.items) store.now.rows (spec.import_text done.0) done.1.rows) }
 {
     let count = entries.len();
     let refused = refused_of(alloc, form, &entries, now)?;
@@ -106,13 +102,13 @@ fn import_entries(
     let of_keys = kept.len();
     let others = placed(alloc, kept, now)?;
     let (rows, whole) = with_rows(alloc, store, &others, form, now)?;
-    store.replace_rows(whole);
-    Ok(Imported {
+    let done = Imported {
         rows,
         expired,
         replaced: of_keys - rows,
         refused,
-    })
+    };
+    Ok((done, whole))
 }
 
 // The entries that are refused, in their order.

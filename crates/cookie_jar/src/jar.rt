@@ -8,7 +8,6 @@ ghost use Rattle.cookie_store.specs.Given.{ArePicked};
 ghost use Rattle.cookie_store.specs.Longest.{AreGivenLongest};
 ghost use Rattle.cookie_store.specs.Placing.{loaded};
 ghost use Rattle.cookie_store.specs.Rows.{Store, found, is_live, key, live, removed};
-ghost use Rattle.cookie_client.specs.Header.{IsHeader};
 ghost use Rattle.user_agent.specs.CrossSite.{IsHeaderFor};
 ghost use Rattle.cookies_txt.specs.Layout.{text_for};
 ghost use Rattle.cookies_txt.specs.Writing.{held, line_of_row};
@@ -36,12 +35,11 @@ use crate::listing::{Layout, listing};
 use crate::reading::read;
 use crate::rows::{live_rows, placed, rows_of, rows_with};
 use crate::saving::{Exported, lines_for, text_of};
-use crate::taking::{End, take_all, take_for};
+use crate::taking::{End, take_all};
 use crate::terminal::Shown;
 use crate::told::header_line;
-use cookie_client::Stopped;
-use cookie_client::client::store_header;
 use cookie_client::laws::host_rows_are_held_rightly;
+use cookie_client::{Client, Stopped};
 use cookie_store::{Cookie, CookieStore};
 use cookies_txt::Reader;
 use jiff::civil::DateTime;
@@ -49,11 +47,11 @@ use publicsuffix::List;
 use std::alloc::{AllocError, Global};
 use std::marker::Model;
 use url::Url;
-use user_agent::cross_site::store_header_for;
+use user_agent::cross_site::header_for;
 use user_agent::laws::no_control_comes;
 use user_agent::{Initiator, Rules};
 
-/// A jar, which contracts see as its store: the rows in their order, and the list of public suffixes.
+/// A jar, which contracts see as its client's store: the rows in their order, and the list of public suffixes.
 ///
 /// It enforces the prefix `__Host-` as a [`cookie_client::Client`] does. No control character stands in the names,
 /// values, domains and paths of its rows, and names and values are as a text gives them: so its texts are read again as
@@ -61,8 +59,7 @@ use user_agent::{Initiator, Rules};
 /// saved and loaded again, as curl does.
 #[derive(Drop, Debug)]
 pub struct Jar {
-    alloc: Global,
-    store: CookieStore,
+    client: Client,
 }
 
 impl Model for Jar {
@@ -71,9 +68,9 @@ impl Model for Jar {
 
     ghost Value = { Store };
 
-    ghost view = { λ j. j.store };
+    ghost view = { λ j. j.client };
 
-    ghost invariant = { λ j. AreKept j.store.rows };
+    ghost invariant = { λ j. AreKept j.client.rows };
 }
 
 impl Jar {
@@ -82,8 +79,7 @@ impl Jar {
         ensures { result ≡ record { rows = []; suffixes = list } }
     {
         Jar {
-            alloc,
-            store: CookieStore::new(alloc).with_suffix_list(list),
+            client: Client::new(alloc, list),
         }
     }
 
@@ -111,8 +107,7 @@ impl Jar {
         match read(alloc, form, text, now) {
             Ok(store) => match only_kept(alloc, store, now) {
                 Ok(store) => Ok(Jar {
-                    alloc,
-                    store: store.with_suffix_list(list),
+                    client: Client::of(alloc, store.with_suffix_list(list)),
                 }),
                 Err(_) => Err(ReadError::OutOfMemory),
             },
@@ -174,13 +169,9 @@ impl Jar {
         ensures passed_over { IfOk result (λ exported. exported.rows + exported.passed_over
             ≡ length (live (civil_nanos now) self.now.rows)) }
     {
-        let told = passed_over_lines(self.alloc, live_rows(self.alloc, &self.store, now)?)?;
-        lines_for(
-            self.alloc,
-            reader,
-            live_rows(self.alloc, &self.store, now)?,
-            told,
-        )
+        let (alloc, store) = (self.client.alloc(), self.client.store());
+        let told = passed_over_lines(alloc, live_rows(alloc, store, now)?)?;
+        lines_for(alloc, reader, live_rows(alloc, store, now)?, told)
     }
 
     // The text of its rows that aren't expired.
@@ -197,11 +188,12 @@ impl Jar {
         ensures utf8 { IfOk result (λ exported. IsUtf8 exported.text.items) }
         ensures err { IfErr result (text.IsUnsaved form passing_over (live (civil_nanos now) self.now.rows)) }
     {
-        if are_live(&self.store, now) {
-            return text_of(self.alloc, &self.store, form, passing_over);
+        let (alloc, store) = (self.client.alloc(), self.client.store());
+        if are_live(store, now) {
+            return text_of(alloc, store, form, passing_over);
         }
-        let store = unexpired(self.alloc, &self.store, now)?;
-        text_of(self.alloc, &store, form, passing_over)
+        let live = unexpired(alloc, store, now)?;
+        text_of(alloc, &live, form, passing_over)
     }
 
     /// Puts the rows of the lines or the items of a text of this form behind its own, each read by itself: without
@@ -231,30 +223,20 @@ impl Jar {
         ensures list { self.new.suffixes ≡ self.old.suffixes }
         ensures kept { AreKept self.new.rows }
     {
-        import_text(self.alloc, &mut self.store, form, held, text, now)
+        let (alloc, store) = (self.client.alloc(), self.client.store());
+        let (done, whole) = import_text(alloc, store, form, held, text, now)?;
+        self.client.replace_rows(whole);
+        Ok(done)
     }
 
-    /// The line `Cookie: ..` of a request to this URL at `now` (RFC 6265, section 5.4), with longer paths first, or
-    /// nothing where no cookie goes with it. But for its end no control character stands in it.
+    /// The line `Cookie: ..` of a request to this URL at `now` that is started so (RFC 6265, section 5.4), with longer
+    /// paths first, or nothing where no cookie goes with it: behind these rules, as
+    /// [`user_agent::UserAgent::header_for`] has its header. But for its end no control character stands in it.
     ///
     /// # Errors
     ///
     /// `AllocError` where there is no memory for the text.
-    pub fn header(&self, url: &Url, now: DateTime) -> Result<String, AllocError>
-        ensures { IfOk result (λ line. (header : _) × IsHeader self.now.rows url.now (civil_nanos now) header
-            × (string_bytes line ≡ told.header_line header) × (has_control header ≡ false)) }
-    {
-        let header = store_header(self.store(), url, now)?;
-        header_line(self.alloc, header.as_str())
-    }
-
-    /// The same line of a request that is started so, behind these rules, as [`user_agent::UserAgent::header_for`] has
-    /// its header: to a page of another site it leaves out the cookies that their `SameSite` keeps at home.
-    ///
-    /// # Errors
-    ///
-    /// Those of [`Jar::header`].
-    pub fn header_for(
+    pub fn header(
         &self,
         rules: &Rules,
         url: &Url,
@@ -265,49 +247,21 @@ impl Jar {
             initiator.now (civil_nanos now) header
             × (string_bytes line ≡ told.header_line header) × (has_control header ≡ false)) }
     {
-        let header = store_header_for(self.alloc, self.store(), rules, url, initiator, now)?;
-        header_line(self.alloc, header.as_str())
+        let header = header_for(&self.client, rules, url, initiator, now)?;
+        header_line(self.client.alloc(), header.as_str())
     }
 
-    /// Takes the `Set-Cookie` lines of an answer from this URL at `now`, one after another, and says what became of
-    /// each, as [`user_agent::UserAgent::receive`] does behind these rules. Before them a line with a control character
-    /// is refused, and one with a tab where the jar is to be saved as `cookies.txt`. Without a rule any other line is
-    /// taken as a client takes it ([`crate::laws::no_rules_are_a_client`]).
+    /// Takes the `Set-Cookie` lines of an answer at `now` to a request to this URL that was started so, one after
+    /// another, and says what became of each, as [`user_agent::UserAgent::receive_for`] does behind these rules. Before
+    /// them a line with a control character is refused, and one with a tab where the jar is to be saved as
+    /// `cookies.txt`. Without a rule any other line is taken as a client takes it
+    /// ([`crate::laws::no_rules_are_a_client`]), but that none is that its `SameSite` keeps out.
     ///
     /// # Errors
     ///
     /// `Stopped` with the line, counted from 1, at which memory was refused: those before it are applied and no later
     /// one was looked at. At 0 none was looked at.
     pub fn receive(
-        &mut self,
-        form: Form,
-        rules: &Rules,
-        url: &Url,
-        lines: &[&[u8]],
-        now: DateTime,
-    ) -> Result<Vec<End>, Stopped>
-        ensures all { IfOk result (λ ends. take.TakesAll form rules.now None self.old.suffixes self.old.rows url.now
-            (civil_nanos now) (map (λ line. line.now) lines.now) ends.items self.new.rows) }
-        ensures stopped { IfErr result (λ stopped. take.IsStopped form rules.now None self.old.suffixes self.old.rows
-            url.now (civil_nanos now) (map (λ line. line.now) lines.now) stopped.0 self.new.rows) }
-        ensures list { self.new.suffixes ≡ self.old.suffixes }
-        ensures kept { AreKept self.new.rows }
-    {
-        host_rows_are_held_rightly();
-        no_control_comes();
-        // A URL that was parsed is valid, whatever is done with it.
-        let _path = url.path();
-        let alloc = self.alloc;
-        take_all(alloc, &mut self.store, form, rules, None, url, lines, now)
-    }
-
-    /// The same of an answer to a request that is started so, as [`user_agent::UserAgent::receive_for`] has it: where
-    /// that comes across sites, it sets no cookie that its `SameSite` keeps out.
-    ///
-    /// # Errors
-    ///
-    /// Those of [`Jar::receive`].
-    pub fn receive_for(
         &mut self,
         form: Form,
         rules: &Rules,
@@ -327,17 +281,7 @@ impl Jar {
         no_control_comes();
         // A URL that was parsed is valid, whatever is done with it.
         let _path = url.path();
-        let alloc = self.alloc;
-        take_for(
-            alloc,
-            &mut self.store,
-            form,
-            rules,
-            url,
-            initiator,
-            lines,
-            now,
-        )
+        take_all(&mut self.client, form, rules, url, initiator, lines, now)
     }
 
     /// The value of the first cookie of this name that a request to this URL gets at `now`, with longer paths first, as
@@ -351,8 +295,8 @@ impl Jar {
             × AreGivenLongest self.now.rows url.now (civil_nanos now) rows
             × (option_map string_bytes value ≡ asked.first_value name.now rows)) }
     {
-        let given = self.store.matches_longest(url, now)?;
-        first_value(self.alloc, given, name)
+        let given = self.client.store().matches_longest(url, now)?;
+        first_value(self.client.alloc(), given, name)
     }
 
     /// The rows that are listed at `now`.
@@ -368,7 +312,7 @@ impl Jar {
         ensures { IfOk result (λ rows.
             asked.AreListed which.now (civil_nanos now) self.now.rows (lent_rows rows.items)) }
     {
-        rows_listed(self.alloc, &self.store, which, now)
+        rows_listed(self.client.alloc(), self.client.store(), which, now)
     }
 
     /// These rows for people or for programs, in their order.
@@ -397,8 +341,8 @@ impl Jar {
     {
         let rows = self.listed(which, now)?;
         let shown = match layout {
-            Layout::Table => listing(self.alloc, rows, now)?,
-            Layout::Json => rows_json(self.alloc, rows)?,
+            Layout::Table => listing(self.client.alloc(), rows, now)?,
+            Layout::Json => rows_json(self.client.alloc(), rows)?,
         };
         Ok(shown.finish())
     }
@@ -424,7 +368,7 @@ impl Jar {
             (option_map string_bytes explained.handed) explained.end explained.rows.rows) }
         ensures shows { IfOk result (λ explained. ShowsNoControl explained.told) }
     {
-        explain_line(self.alloc, &self.store, form, rules, url, line, now)
+        explain_line(&self.client, form, rules, url, line, now)
     }
 
     /// Takes the row of the domain's text, which has no dot in front, the path's text and the name out, whether or not
@@ -436,9 +380,7 @@ impl Jar {
         } }
         ensures kept { AreKept self.new.rows }
     {
-        let was = self.store.contains_any(domain, path, name);
-        let _ = self.store.remove(domain, path, name);
-        was
+        self.client.remove(domain, path, name).is_some()
     }
 
     /// Takes the row out that has this domain, path and name, as [`Jar::remove`] does. Where there is none, it takes
@@ -458,10 +400,11 @@ impl Jar {
         ensures same { OnErr result (self.new ≡ self.old) }
         ensures kept { AreKept self.new.rows }
     {
-        let Some(cookie) = meant(self.alloc, &self.store, domain, path, name)? else {
+        let (alloc, store) = (self.client.alloc(), self.client.store());
+        let Some(cookie) = meant(alloc, store, domain, path, name)? else {
             return Ok(false);
         };
-        let (domain, path, name) = key_texts(self.alloc, cookie)?;
+        let (domain, path, name) = key_texts(alloc, cookie)?;
         let _ = self.remove(domain.as_str(), path.as_str(), name.as_str());
         Ok(true)
     }
@@ -476,8 +419,8 @@ impl Jar {
         ensures ok { IfOk result (λ _. self.new ≡ record self.old { rows = [] }) }
         ensures same { OnErr result (self.new ≡ self.old) }
     {
-        let count = rows_of(self.alloc, &self.store)?.len();
-        self.store.clear();
+        let count = rows_of(self.client.alloc(), self.client.store())?.len();
+        self.client.clear();
         Ok(count)
     }
 
@@ -486,7 +429,7 @@ impl Jar {
         ensures store { result.now ≡ self.now }
         ensures kept { AreKept self.now.rows }
     {
-        &self.store
+        self.client.store()
     }
 }
 

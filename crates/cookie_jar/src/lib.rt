@@ -2,8 +2,9 @@
 //!
 //! ```text
 //! let mut jar = Jar::load(alloc, list, Form::Ron, text, now)?;
-//! let ends = jar.receive(Form::Ron, &Rules::browser(), &url, &[b"a=1; Path=/"], now)?;
-//! let line = jar.header(&url, now)?;  // "Cookie: a=1\n"
+//! let (rules, user) = (Rules::browser(), Initiator::user());
+//! let ends = jar.receive(Form::Ron, &rules, &url, &user, &[b"a=1; Path=/"], now)?;
+//! let line = jar.header(&rules, &url, &user, now)?;  // "Cookie: a=1\n"
 //! let text = jar.save(Form::Ron, now)?;
 //! ```
 #![tactic(auto)]

@@ -1,23 +1,18 @@
-//! The `Set-Cookie` lines of an answer, taken into the rows of a jar.
+//! The `Set-Cookie` lines of an answer, taken into a jar.
 ghost use Rattle.std.specs.Prelude.{◌≡◌, IfOk, IfErr, OnErr, map};
 ghost use Rattle.jiff.specs.Words.{civil_nanos};
 ghost use Rattle.user_agent.specs.Agent.{AsksForMemory};
-ghost use Rattle.user_agent.specs.Changes.{AreChanges};
 ghost use Rattle.user_agent.specs.SecurePlaces.{ArePlacesOf};
 ghost use Rattle.cookie_jar.specs.Taking as spec;
 
 use crate::form::Form;
 use crate::keeping::has_control;
-use cookie_client::Stopped;
-use cookie_store::CookieStore;
+use cookie_client::{Client, Stopped};
 use jiff::civil::DateTime;
-use std::alloc::{AllocError, Global};
+use std::alloc::AllocError;
 use url::Url;
 use user_agent::cross_answer::comes_across;
-use user_agent::{
-    Changes, Initiator, Outcome, OutcomeFor, Rules, SecurePlaces, SiteRefusal, accept_line_from,
-    accept_line_told,
-};
+use user_agent::{Changes, Initiator, Outcome, OutcomeFor, Rules, SecurePlaces, SiteRefusal, take};
 
 /// What became of a line in a jar.
 #[derive(Clone, Copy, Debug, PartialEq, Eq)]
@@ -33,44 +28,15 @@ pub enum End {
     Tab,
 }
 
-/// Takes the lines of an answer from this URL at `now` into the store of a jar that is to be saved in this form, one
-/// after another, each behind these rules; `across` is whether it comes across sites, where that is said.
+/// Takes the lines of an answer at `now` to a request to this URL that was started so into the client of a jar that is to
+/// be saved in this form, one after another, each behind these rules.
 ///
 /// # Errors
 ///
 /// `Stopped` with the line, counted from 1, at which memory was refused: those before it are applied and no later one
 /// was looked at. At 0 none was looked at.
 pub(crate) fn take_all(
-    alloc: Global,
-    store: &mut CookieStore,
-    form: Form,
-    rules: &Rules,
-    across: Option<bool>,
-    url: &Url,
-    lines: &[&[u8]],
-    now: DateTime,
-) -> Result<Vec<End>, Stopped>
-    ensures all { IfOk result (λ ends. spec.TakesAll form rules.now across store.old.suffixes store.old.rows url.now
-        (civil_nanos now) (map (λ line. line.now) lines.now) ends.items store.new.rows) }
-    ensures stopped { IfErr result (λ stopped. spec.IsStopped form rules.now across store.old.suffixes
-        store.old.rows url.now
-        (civil_nanos now) (map (λ line. line.now) lines.now) stopped.0 store.new.rows) }
-    ensures list { store.new.suffixes ≡ store.old.suffixes }
-{
-    let Ok(secure) = SecurePlaces::of(alloc, store, rules, url, lines.len(), now) else {
-        return Err(Stopped(0));
-    };
-    take_beside(alloc, store, form, rules, across, &secure, url, lines, now)
-}
-
-/// The same of an answer to a request that is started so.
-///
-/// # Errors
-///
-/// Those of [`take_all`].
-pub(crate) fn take_for(
-    alloc: Global,
-    store: &mut CookieStore,
+    client: &mut Client,
     form: Form,
     rules: &Rules,
     url: &Url,
@@ -78,41 +44,64 @@ pub(crate) fn take_for(
     lines: &[&[u8]],
     now: DateTime,
 ) -> Result<Vec<End>, Stopped>
-    ensures all { IfOk result (λ ends. spec.TakesFor form rules.now store.old.suffixes store.old.rows url.now
-        initiator.now (civil_nanos now) (map (λ line. line.now) lines.now) ends.items store.new.rows) }
-    ensures stopped { IfErr result (λ stopped. spec.IsStoppedFor form rules.now store.old.suffixes store.old.rows
-        url.now initiator.now (civil_nanos now) (map (λ line. line.now) lines.now) stopped.0 store.new.rows) }
-    ensures list { store.new.suffixes ≡ store.old.suffixes }
+    ensures all { IfOk result (λ ends. spec.TakesFor form rules.now client.old.suffixes client.old.rows url.now
+        initiator.now (civil_nanos now) (map (λ line. line.now) lines.now) ends.items client.new.rows) }
+    ensures stopped { IfErr result (λ stopped. spec.IsStoppedFor form rules.now client.old.suffixes client.old.rows
+        url.now initiator.now (civil_nanos now) (map (λ line. line.now) lines.now) stopped.0 client.new.rows) }
+    ensures list { client.new.suffixes ≡ client.old.suffixes }
 {
-    let across = comes_across(store, url, initiator);
-    take_all(alloc, store, form, rules, Some(across), url, lines, now)
+    let across = comes_across(client.store(), url, initiator);
+    take_from(client, form, rules, across, url, lines, now)
+}
+
+// Takes the lines of an answer that comes across sites, or doesn't.
+fn take_from(
+    client: &mut Client,
+    form: Form,
+    rules: &Rules,
+    across: bool,
+    url: &Url,
+    lines: &[&[u8]],
+    now: DateTime,
+) -> Result<Vec<End>, Stopped>
+    ensures all { IfOk result (λ ends. spec.TakesAll form rules.now across client.old.suffixes client.old.rows url.now
+        (civil_nanos now) (map (λ line. line.now) lines.now) ends.items client.new.rows) }
+    ensures stopped { IfErr result (λ stopped. spec.IsStopped form rules.now across client.old.suffixes
+        client.old.rows url.now
+        (civil_nanos now) (map (λ line. line.now) lines.now) stopped.0 client.new.rows) }
+    ensures list { client.new.suffixes ≡ client.old.suffixes }
+{
+    let (alloc, store) = (client.alloc(), client.store());
+    let Ok(secure) = SecurePlaces::of(alloc, store, rules, url, lines.len(), now) else {
+        return Err(Stopped(0));
+    };
+    take_beside(client, form, rules, across, &secure, url, lines, now)
 }
 
 // The same where the Secure rows stand at these places.
 fn take_beside(
-    alloc: Global,
-    store: &mut CookieStore,
+    client: &mut Client,
     form: Form,
     rules: &Rules,
-    across: Option<bool>,
+    across: bool,
     secure: &SecurePlaces,
     url: &Url,
     lines: &[&[u8]],
     now: DateTime,
 ) -> Result<Vec<End>, Stopped>
-    requires { ArePlacesOf secure.now rules.now url.now (civil_nanos now) store.old.rows }
-    ensures all { IfOk result (λ ends. spec.TakesAll form rules.now across store.old.suffixes store.old.rows url.now
-        (civil_nanos now) (map (λ line. line.now) lines.now) ends.items store.new.rows) }
-    ensures stopped { IfErr result (λ stopped. spec.IsStopped form rules.now across store.old.suffixes
-        store.old.rows url.now
-        (civil_nanos now) (map (λ line. line.now) lines.now) stopped.0 store.new.rows) }
-    ensures list { store.new.suffixes ≡ store.old.suffixes }
+    requires { ArePlacesOf secure.now rules.now url.now (civil_nanos now) client.old.rows }
+    ensures all { IfOk result (λ ends. spec.TakesAll form rules.now across client.old.suffixes client.old.rows url.now
+        (civil_nanos now) (map (λ line. line.now) lines.now) ends.items client.new.rows) }
+    ensures stopped { IfErr result (λ stopped. spec.IsStopped form rules.now across client.old.suffixes
+        client.old.rows url.now
+        (civil_nanos now) (map (λ line. line.now) lines.now) stopped.0 client.new.rows) }
+    ensures list { client.new.suffixes ≡ client.old.suffixes }
 {
-    let Ok(mut ends) = Vec::with_capacity(alloc, lines.len()) else {
+    let Ok(mut ends) = Vec::with_capacity(client.alloc(), lines.len()) else {
         return Err(Stopped(0));
     };
     for (i, line) in lines.iter().enumerate() {
-        match take_line(alloc, store, form, rules, across, secure, url, line, now) {
+        match take_line(client, form, rules, across, secure, url, line, now) {
             // There is room for one end a line, so this push is not refused.
             Ok(end) => match ends.push(end) {
                 Ok(()) => {}
@@ -130,22 +119,21 @@ fn take_beside(
 ///
 /// `AllocError` where memory was refused. The rows are then as they were.
 pub(crate) fn take_line(
-    alloc: Global,
-    store: &mut CookieStore,
+    client: &mut Client,
     form: Form,
     rules: &Rules,
-    across: Option<bool>,
+    across: bool,
     secure: &SecurePlaces,
     url: &Url,
     line: &[u8],
     now: DateTime,
 ) -> Result<End, AllocError>
-    requires { ArePlacesOf secure.now rules.now url.now (civil_nanos now) store.old.rows }
-    ensures ok { IfOk result (λ end. spec.TakesLine form rules.now across store.old.suffixes store.old.rows url.now
-        (civil_nanos now) line.now end store.new.rows) }
-    ensures err { OnErr result ((store.new.rows ≡ store.old.rows) × AsksForMemory rules.now url.now line.now) }
-    ensures list { store.new.suffixes ≡ store.old.suffixes }
-    ensures places { ArePlacesOf secure.now rules.now url.now (civil_nanos now) store.new.rows }
+    requires { ArePlacesOf secure.now rules.now url.now (civil_nanos now) client.old.rows }
+    ensures ok { IfOk result (λ end. spec.TakesLine form rules.now across client.old.suffixes client.old.rows url.now
+        (civil_nanos now) line.now end client.new.rows) }
+    ensures err { OnErr result ((client.new.rows ≡ client.old.rows) × AsksForMemory rules.now url.now line.now) }
+    ensures list { client.new.suffixes ≡ client.old.suffixes }
+    ensures places { ArePlacesOf secure.now rules.now url.now (civil_nanos now) client.new.rows }
 {
     if has_control(line) {
         return Ok(End::Control);
@@ -153,37 +141,9 @@ pub(crate) fn take_line(
     if parts_by_tabs(form) && has_tab(line) {
         return Ok(End::Tab);
     }
-    match take_by_rules(alloc, store, rules, across, secure, url, line, now) {
+    match take(client, rules, across, secure, url, line, now) {
         Ok((OutcomeFor::Judged(outcome), changes)) => Ok(End::Line(outcome, changes)),
         Ok((OutcomeFor::KeptOut(cause), _)) => Ok(End::KeptOut(cause)),
-        Err(refused) => Err(refused),
-    }
-}
-
-// Takes one line that the jar itself doesn't refuse.
-fn take_by_rules(
-    alloc: Global,
-    store: &mut CookieStore,
-    rules: &Rules,
-    across: Option<bool>,
-    secure: &SecurePlaces,
-    url: &Url,
-    line: &[u8],
-    now: DateTime,
-) -> Result<(OutcomeFor, Changes), AllocError>
-    requires { ArePlacesOf secure.now rules.now url.now (civil_nanos now) store.old.rows }
-    ensures ok { IfOk result (λ told. spec.AgentTakesFrom rules.now across store.old.suffixes store.old.rows url.now
-        (civil_nanos now) line.now told.0 store.new.rows) }
-    ensures changes { IfOk result (λ told. AreChanges rules.now (civil_nanos now) line.now told.1) }
-    ensures err { OnErr result ((store.new.rows ≡ store.old.rows) × AsksForMemory rules.now url.now line.now) }
-    ensures list { store.new.suffixes ≡ store.old.suffixes }
-    ensures places { ArePlacesOf secure.now rules.now url.now (civil_nanos now) store.new.rows }
-{
-    if let Some(across) = across {
-        return accept_line_from(alloc, store, rules, across, secure, url, line, now);
-    }
-    match accept_line_told(alloc, store, rules, secure, url, line, now) {
-        Ok((outcome, changes)) => Ok((OutcomeFor::Judged(outcome), changes)),
         Err(refused) => Err(refused),
     }
 }

@@ -29,7 +29,7 @@ use kept_file::draft::Draft;
 use publicsuffix::List;
 use std::alloc::{AllocError, Global};
 use url::Url;
-use user_agent::agent::{header_of, receive_all};
+use user_agent::agent::receive_all;
 use user_agent::cross_site::header_for;
 use user_agent::{Initiator, Outcome, Rules};
 
@@ -292,7 +292,7 @@ fn sent(
         spec.Sends rules client.now.rows url.now (civil_nanos now) (string_bytes header)) }
 {
     match rules {
-        Some(rules) => header_of(client, &rules, url, now),
+        Some(rules) => header_for(client, &rules, url, &Initiator::user(), now),
         None => client.header(url, now),
     }
 }

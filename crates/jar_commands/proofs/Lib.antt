@@ -5,5 +5,4 @@ pub mod ListLemmas
 pub mod NameLemmas
 pub mod ProgramLemmas
 pub mod RuleLemmas
-pub mod StartedLemmas
 pub mod VisitLemmas

@@ -47,7 +47,7 @@ options, which may stand anywhere; behind a word -- no word is an option:
                        10 where it isn't given.
   --rules LIST         The rules of browsers for what is received, some of those below with commas
                        between, or browser for all but the last two, or none; browser where it
-                       isn't given. The last two count beside --from.
+                       isn't given. lax-by-default counts beside --from.
   --suffixes FILE      The list of public suffixes; where it isn't given, that which
                        COOKIE_JAR_SUFFIXES names in the environment, else Debian's.
   --now MOMENT         The moment, as 2024-01-01T00:00:00Z; the clock's where it isn't given.

@@ -25,8 +25,8 @@ const WAIT: u64 = 10;
 /// What starts a request.
 #[derive(Debug, Drop)]
 pub enum Start {
-    /// Nothing is said of that.
-    Unsaid,
+    /// The user.
+    User,
     /// The page of this URL.
     Page(Url),
     /// The page of this URL, and it navigates the top level by a safe method.
@@ -35,13 +35,13 @@ pub enum Start {
 
 impl Start {
     /// What a user agent is told of that.
-    pub(crate) fn initiator(&self) -> Option<Initiator<'_>>
-        ensures { started.IsTold self.now result }
+    pub(crate) fn initiator(&self) -> Initiator<'_>
+        ensures { started.IsStarted self.now result }
     {
         match self {
-            Start::Unsaid => None,
-            Start::Page(page) => Some(by_page(page, false)),
-            Start::Navigation(page) => Some(by_page(page, true)),
+            Start::User => Initiator::user(),
+            Start::Page(page) => by_page(page, false),
+            Start::Navigation(page) => by_page(page, true),
         }
     }
 }
@@ -308,7 +308,7 @@ fn is_own(file: &str, jar: &str) -> bool
 // What starts the request.
 fn start_of(alloc: Global, words: &Words<'_>) -> Result<Start, Stopped> {
     let Some(page) = words.value(Name::From) else {
-        return Ok(Start::Unsaid);
+        return Ok(Start::User);
     };
     let page = page_of(alloc, page)?;
     if words.has(Name::Navigate) {

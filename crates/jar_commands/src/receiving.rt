@@ -1,10 +1,9 @@
 //! The command that takes what URLs answered.
 ghost use Rattle.std.specs.Prelude.{◌≡◌, ◌⊎◌, ◌||◌, is_some, IfOk, IfErr, IsSomeAnd, OnOk, map};
-ghost use Rattle.std.specs.Prelude.{None, if◌then◌else◌};
+ghost use Rattle.std.specs.Prelude.{if◌then◌else◌};
 ghost use Rattle.std.specs.Option.{option_copied};
 ghost use Rattle.jiff.specs.Words.{civil_nanos};
 ghost use Rattle.response_heads.specs.Visits.{IsVisitRefusal, visit_text};
-ghost use Rattle.cookie_jar.specs.Taking.{TakesAll};
 ghost use Rattle.cookie_jar.specs.Terminal.{ArePlain};
 ghost use Rattle.jar_commands.specs.Outcomes.{GivesReceived, outcome_text};
 ghost use Rattle.jar_commands.specs.Performing.{FailsToReceive};
@@ -244,8 +243,8 @@ fn receive_visit(
     Ok(())
 }
 
-// Takes the lines of an answer from this URL to a request that is started so.
-fn take_answer(
+/// Takes the lines of an answer from this URL to a request that is started so, one after another.
+pub(crate) fn take_answer(
     plan: &Plan<'_>,
     jar: &mut Jar,
     start: &Start,
@@ -256,27 +255,14 @@ fn take_answer(
         url.now (civil_nanos plan.now.at) (map (λ line. line.now) lines.now) ends.items jar.new.rows) }
     ensures list { jar.new.suffixes ≡ jar.old.suffixes }
 {
-    let Some(initiator) = start.initiator() else {
-        return take_lines(plan, jar, url, lines);
-    };
-    match jar.receive_for(plan.form, &plan.rules, url, &initiator, lines, plan.at) {
-        Ok(ends) => Ok(ends),
-        Err(_) => Err(AllocError),
-    }
-}
-
-/// Takes the lines of an answer from this URL, one after another, where nothing is said of its request.
-pub(crate) fn take_lines(
-    plan: &Plan<'_>,
-    jar: &mut Jar,
-    url: &Url,
-    lines: &[&[u8]],
-) -> Result<Vec<End>, AllocError>
-    ensures ok { IfOk result (λ ends. TakesAll plan.now.form plan.now.rules None jar.old.suffixes jar.old.rows url.now
-        (civil_nanos plan.now.at) (map (λ line. line.now) lines.now) ends.items jar.new.rows) }
-    ensures list { jar.new.suffixes ≡ jar.old.suffixes }
-{
-    match jar.receive(plan.form, &plan.rules, url, lines, plan.at) {
+    match jar.receive(
+        plan.form,
+        &plan.rules,
+        url,
+        &start.initiator(),
+        lines,
+        plan.at,
+    ) {
         Ok(ends) => Ok(ends),
         Err(_) => Err(AllocError),
     }

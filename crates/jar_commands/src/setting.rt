@@ -9,8 +9,8 @@ ghost use Rattle.jar_commands.specs.Setting as spec;
 use crate::failure::Failure;
 use crate::jar_text::saved;
 use crate::outcome::Outcome;
-use crate::plan::Plan;
-use crate::receiving::{is_any_refused, status_of, take_lines};
+use crate::plan::{Plan, Start};
+use crate::receiving::{is_any_refused, status_of, take_answer};
 use cookie_jar::{End, Jar, told_lines};
 use std::alloc::{AllocError, Global};
 use url::Url;
@@ -50,7 +50,7 @@ fn take_line(
     if breaks_head(line) {
         return Ok(vec![in alloc; End::Control]?);
     }
-    take_lines(plan, jar, url, &[line])
+    take_answer(plan, jar, &Start::User, url, &[line])
 }
 
 // Whether the line has a byte that none of a head has.

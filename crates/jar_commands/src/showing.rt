@@ -21,10 +21,7 @@ pub(crate) fn header(
         spec.GivesHeader (plan_text plan.now) jar.now url.now start.now (spec.outcome_text outcome)) }
     ensures err { IfErr result (λ failure. failure ≡ Failure.Memory) }
 {
-    let Some(initiator) = start.initiator() else {
-        return Ok(shown(jar.header(url, plan.at)?));
-    };
-    Ok(shown(jar.header_for(&plan.rules, url, &initiator, plan.at)?))
+    Ok(shown(jar.header(&plan.rules, url, &start.initiator(), plan.at)?))
 }
 
 /// `get URL NAME`.

@@ -13,8 +13,8 @@ pub loop-piece-preserved : goal.loop-piece-preserved
 loop-piece-preserved c =
     let old = c.loop-piece.invariant in
     let read = record_in c.in_ok-cookie.field-0 in
-    let give = give_more c.args.shown c.args.pieces.now c.loop-piece.piece-index _ old.0 read c.loop-piece-test.true old.1
-    c.in_ok-cookie.ensures in
+    let give = give_more c.args.shown c.args.pieces.now c.loop-piece.piece-index _ old.0 read c.loop-piece-test.true
+    old.1 c.in_ok-cookie.ensures in
     elim c.match-branch-2.branch [
       | in-Some+in_ok-add_original w ↦ (
         old.0 ++ option_to_list read,

@@ -61,8 +61,8 @@ overflow_sub-result c =
       kept.ok.0,
     )
 
-pub returns-clause-ok : goal.returns-clause-ok
-returns-clause-ok c =
+pub returns : goal.returns
+returns c =
     let now = civil_nanos c.args.now in
     let refused = c.in_ok-refused.refused in
     let kept = c.in_ok-kept.kept in
@@ -97,8 +97,7 @@ returns-clause-ok c =
     record {
       kept = map stored_of kept.items;
       are_kept = c.in_ok-kept.ensures;
-      new_rows = ap (λ (s : Store). s.rows) c.replace_rows.ensures
-          ∙ (rows ∙ ap (λ rs. loaded false now (own ++ rs)) whole);
+      new_rows = rows ∙ ap (λ rs. loaded false now (own ++ rs)) whole;
       taken = count ∙ ap length whole;
       replaced = replaced;
       expired = expired;

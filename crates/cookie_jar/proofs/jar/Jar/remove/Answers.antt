@@ -9,10 +9,10 @@ pub invariant_of-self : goal.invariant_of-self
 invariant_of-self c =
     let k = key c.args.domain.now c.args.path.now c.args.name.now in
     subst (λ (s : Store). AreKept s.rows) (sym c.remove.ensures.rest)
-    (filter_all IsKept (λ row. not (has_key k row)) c.self.inside.store.rows c.self.invariant)
+    (filter_all IsKept (λ row. not (has_key k row)) c.self.inside.client.rows c.self.invariant)
 
 pub returns-clause-kept : goal.returns-clause-kept
 returns-clause-kept c =
     let k = key c.args.domain.now c.args.path.now c.args.name.now in
     subst (λ (s : Store). AreKept s.rows) (sym c.remove.ensures.rest)
-    (filter_all IsKept (λ row. not (has_key k row)) c.self.inside.store.rows c.self.invariant)
+    (filter_all IsKept (λ row. not (has_key k row)) c.self.inside.client.rows c.self.invariant)
