@@ -57,3 +57,10 @@ mod HostFacts
 mod VisitFacts
 pub mod HostRows
 pub mod MappedSteps
+mod ShardReach
+mod ShardLemmas
+mod ShardRuns
+mod ShardPresence
+mod ShardCuts
+mod ShardMade
+mod ShardWeb

@@ -28,3 +28,6 @@ pub mod Standing
 pub mod Program
 pub mod ProgramKept
 pub mod ProgramRead
+pub mod SharedHosts
+pub mod ShardCut
+pub mod ShardExchanges

@@ -10,6 +10,7 @@ mod moment;
 pub mod play;
 pub mod program;
 pub mod script;
+pub mod shards;
 pub mod step;
 pub mod text;
 

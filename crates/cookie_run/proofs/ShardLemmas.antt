@@ -2,9 +2,9 @@
 use Rattle.std.proofs.Common.{◌≡◌, ◌⊎◌, ℕ, ◌≤◌, List, length, sym, refl, ap, ◌∙◌, subst, inl, inr, arith}
 use Rattle.std.proofs.lemmas.Bool.{cases_lt}
 use Rattle.publicsuffix.specs.Rules.{Rule}
-use Rattle.shards.specs.Related.{EndsInNoAddress, HostsHaveOneShard, RelatedHostsHaveOneShard, OneShardIsRelated}
+use Rattle.cookie_run.specs.SharedHosts.{EndsInNoAddress, HostsHaveOneShard, RelatedHostsHaveOneShard, OneShardIsRelated}
 use Rattle.cookie_client.specs.Shard.{IsShared, IsShardOf}
-use Rattle.shards.proofs.ReachLemmas.{reach_within, reach_further, reach_once, reach_whole}
+use Rattle.cookie_run.proofs.ShardReach.{reach_within, reach_further, reach_once, reach_whole}
 
 -- the shard of a host is that of each unlisted text in its reach
 pub shard_below : (list : List Rule) (host t shard : List ℕ) → EndsInNoAddress host → IsShared list host t

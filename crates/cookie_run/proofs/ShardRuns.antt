@@ -36,10 +36,10 @@ use Rattle.cookie_client.proofs.Tried.{Does, line_does, tried_once}
 use Rattle.cookie_run.proofs.Sound.{Sound, keeps_sound, lines_sound}
 use Rattle.cookie_run.proofs.Strangers.{few_none, few_some}
 use Rattle.cookie_run.proofs.Tried.{IsSound, Stands, tried_stands}
-use Rattle.shards.specs.Cut.{IsOfShard, AreOfShard, IsNoExchangeOf, AnswersByName}
-use Rattle.shards.specs.Related.{HasNoAddressBehind}
+use Rattle.cookie_run.specs.ShardCut.{IsOfShard, AreOfShard, IsNoExchangeOf, AnswersByName}
+use Rattle.cookie_run.specs.SharedHosts.{HasNoAddressBehind}
 use Rattle.cookie_client.specs.Shard.{IsShardOf, IsShardAt}
-use Rattle.shards.proofs.ShardLemmas.{shard_below, shard_above}
+use Rattle.cookie_run.proofs.ShardLemmas.{shard_below, shard_above}
 
 module _ (one : ReadsOnce) (list : List Rule) (shard : List ℕ) where
   abbrev In : List ℕ → Type 0

@@ -1,7 +1,7 @@
 //! What holds of shards.
-ghost use Rattle.shards.specs.Cut.{ShardsAreTheClient};
-ghost use Rattle.shards.specs.Exchanges.{ShardsServeSessions};
-ghost use Rattle.shards.specs.Related as law;
+ghost use Rattle.cookie_run.specs.ShardCut.{ShardsAreTheClient};
+ghost use Rattle.cookie_run.specs.ShardExchanges.{ShardsServeSessions};
+ghost use Rattle.cookie_run.specs.SharedHosts as law;
 
 use cookie_text::laws::one_outcome;
 

@@ -2,9 +2,9 @@
 use Rattle.std.proofs.Common.{[], refl}
 use Rattle.cookie_store.specs.Laws.{GivenOnce, OneOrder}
 use Rattle.cookie_client.proofs.ReadOnce.{ReadsOnce}
-use Rattle.shards.specs.Cut.{ShardsAreTheClient, ShardClient}
-use Rattle.shards.proofs.RunLemmas.{Runs, both_play, same_header}
-use Rattle.shards.proofs.ThereLemmas.{header_there}
+use Rattle.cookie_run.specs.ShardCut.{ShardsAreTheClient, ShardClient}
+use Rattle.cookie_run.proofs.ShardRuns.{Runs, both_play, same_header}
+use Rattle.cookie_run.proofs.ShardPresence.{header_there}
 
 pub shards_cut : ReadsOnce → GivenOnce → OneOrder → ShardsAreTheClient
 shards_cut one given_once order b list key acts told rows p named shard none = record {

@@ -18,12 +18,12 @@ use Rattle.cookie_run.specs.Strangers.{IsRelatedAt, Concerns, IsOnly, IsNoExchan
 use Rattle.cookie_client.specs.declared.command.Reading.{Reading}
 use Rattle.cookie_run.proofs.AloneRuns.{header_too}
 use Rattle.cookie_run.proofs.Lines.{some_and}
-use Rattle.shards.specs.Cut.{IsOfShard, AreOfShard, IsNoExchangeOf, AnswersByName, ShardClient}
-use Rattle.shards.specs.Related.{EndsInNoAddress, HasNoAddressBehind}
+use Rattle.cookie_run.specs.ShardCut.{IsOfShard, AreOfShard, IsNoExchangeOf, AnswersByName, ShardClient}
+use Rattle.cookie_run.specs.SharedHosts.{EndsInNoAddress, HasNoAddressBehind}
 use Rattle.cookie_client.specs.Shard.{IsShardOf, IsShardAt}
 use Rattle.cookie_client.proofs.BehindDots.{behind_shorter}
-use Rattle.shards.proofs.ReachLemmas.{reach_further, reach_short}
-use Rattle.shards.proofs.ShardLemmas.{shard_below, shard_above}
+use Rattle.cookie_run.proofs.ShardReach.{reach_further, reach_short}
+use Rattle.cookie_run.proofs.ShardLemmas.{shard_below, shard_above}
 
 either : (P : Type 0) → IsUnrefuted (P ⊎ (¬ P))
 either P refuted = refuted (inr (λ p. refuted (inl p)))

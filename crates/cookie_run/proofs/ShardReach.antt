@@ -3,7 +3,7 @@ use Rattle.std.proofs.Common.{◌≡◌, ◌⊎◌, ℕ, ◌≤◌, List, [], �
 use Rattle.std.proofs.lemmas.List.{append_assoc}
 use Rattle.store_parts.specs.DomainMatch.{EndsAfterDot, IsHostName}
 use Rattle.cookie_client.specs.Hosts.{IsInReach}
-use Rattle.shards.specs.Related.{EndsInNoAddress}
+use Rattle.cookie_run.specs.SharedHosts.{EndsInNoAddress}
 use Rattle.cookie_client.proofs.BehindDots.{behind_shorter}
 
 -- of two texts behind dots of one host the shorter is the longer, or stands behind a dot of it

@@ -10,9 +10,9 @@ use Rattle.cookie_client.specs.declared.command.Reading.TheVariants.{Header}
 use Rattle.cookie_store.specs.Laws.{GivenOnce, OneOrder}
 use Rattle.cookie_client.proofs.ReadOnce.{ReadsOnce}
 use Rattle.publicsuffix.specs.Rules.{Rule}
-use Rattle.shards.specs.Cut.{AnswersByName, IsNoExchangeOf}
-use Rattle.shards.specs.Exchanges.{IsMade, AreMade, ShardsServeSessions}
-use Rattle.shards.proofs.CutLemmas.{shards_cut}
+use Rattle.cookie_run.specs.ShardCut.{AnswersByName, IsNoExchangeOf}
+use Rattle.cookie_run.specs.ShardExchanges.{IsMade, AreMade, ShardsServeSessions}
+use Rattle.cookie_run.proofs.ShardCuts.{shards_cut}
 
 module _ (list : List Rule) (key : List ℕ) where
   -- ---- one play behind another

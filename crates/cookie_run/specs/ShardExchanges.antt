@@ -13,7 +13,7 @@ use Rattle.cookie_client.specs.Jar.{Keyed, lines_of}
 use Rattle.cookie_run.specs.Play.{Plays}
 use Rattle.cookie_client.specs.declared.command.Reading.{Reading}
 use Rattle.cookie_client.specs.declared.command.Reading.TheVariants.{Header}
-use Rattle.shards.specs.Cut.{AnswersByName, IsCut}
+use Rattle.cookie_run.specs.ShardCut.{AnswersByName, IsCut}
 
 -- ---- an act
 

@@ -28,7 +28,7 @@ use Rattle.url.specs.declared.sets.TheConstants.{FORBIDDEN_DOMAIN}
 use Rattle.url.proofs.HostRoundTrip.{All-decimal}
 use Rattle.url.proofs.InputLemmas.{IsNot, Passes, rsplit_once_at, list_all_from_All, is_empty_nonempty}
 use Rattle.url.proofs.SetLemmas.{All_kept_differs}
-use Rattle.shards.specs.Related.{EndsInNoAddress, SpecialHostsEndInNoAddress}
+use Rattle.cookie_run.specs.SharedHosts.{EndsInNoAddress, SpecialHostsEndInNoAddress}
 
 -- ---- a domain
 

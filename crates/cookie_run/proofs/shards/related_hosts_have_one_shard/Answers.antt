@@ -1,5 +1,5 @@
-use Rattle.shards.proofs.ShardLemmas.{shard_once, related_shard, shard_related}
-use Rattle.shards.proofs.laws.related_hosts_have_one_shard.Goals as goal
+use Rattle.cookie_run.proofs.ShardLemmas.{shard_once, related_shard, shard_related}
+use Rattle.cookie_run.proofs.shards.related_hosts_have_one_shard.Goals as goal
 
 pub returns-clause-one : goal.returns-clause-one
 returns-clause-one c = shard_once

@@ -9,7 +9,7 @@ use Rattle.cookie_client.specs.Header.{IsHeader}
 use Rattle.cookie_run.specs.Headline.{Each}
 use Rattle.cookie_run.specs.Play.{Plays}
 use Rattle.cookie_client.specs.declared.command.Reading.{Reading}
-use Rattle.shards.specs.Related.{HasNoAddressBehind}
+use Rattle.cookie_run.specs.SharedHosts.{HasNoAddressBehind}
 use Rattle.cookie_client.specs.Shard.{IsShardOf, IsShardAt}
 
 -- ---- the steps of a shard

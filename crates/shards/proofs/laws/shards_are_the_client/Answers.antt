@@ -1,5 +1,0 @@
-use Rattle.shards.proofs.CutLemmas.{shards_cut}
-use Rattle.shards.proofs.laws.shards_are_the_client.Goals as goal
-
-pub returns : goal.returns
-returns c = shards_cut c.one_outcome.ensures.plain c.laws.ensures.given c.laws.ensures.order

@@ -1,5 +1,0 @@
-use Rattle.shards.proofs.MadeLemmas.{sessions_served}
-use Rattle.shards.proofs.laws.shards_serve_sessions.Goals as goal
-
-pub returns : goal.returns
-returns c = sessions_served c.one_outcome.ensures.plain c.laws.ensures.given c.laws.ensures.order

@@ -1,3 +1,0 @@
-pub mod Related
-pub mod Cut
-pub mod Exchanges
