@@ -1,5 +1,0 @@
-use Rattle.low_tests.specs.Rows.{AreIndexed}
-use Rattle.low_tests.proofs.index_tests.walks.Given as goal
-
-abbrev pub invariant-loop : goal.invariant-loop
-invariant-loop g l = AreIndexed l.rows.items l.index
