@@ -1,5 +1,4 @@
 mod Carried
-mod Lined
 mod Putting
 mod Reading
 mod Values

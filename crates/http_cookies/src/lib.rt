@@ -2,8 +2,7 @@
 //!
 //! A server reads the `cookie` fields of a request by [`session_of`] or [`jar_of`], and puts the
 //! `set-cookie` fields of its answer by [`put_lines`] or [`put_delta`]. A client puts the `cookie` field
-//! of a request by [`put_header`], and takes the `set-cookie` fields of an answer by [`receive`];
-//! [`put_header_of`] and [`receive_into`] do so for a store alone. Nothing is sent.
+//! of a request by [`put_header`], and takes the `set-cookie` fields of an answer by [`receive`]. Nothing is sent.
 #![tactic(auto)]
 
 mod client;
@@ -11,9 +10,7 @@ mod error;
 mod fields;
 pub mod laws;
 mod server;
-mod storing;
 
-pub use client::{put_header, put_header_of, receive};
+pub use client::{put_header, receive};
 pub use error::PutError;
 pub use server::{jar_of, put_delta, put_lines, session_of};
-pub use storing::receive_into;
