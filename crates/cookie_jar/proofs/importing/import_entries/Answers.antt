@@ -43,8 +43,8 @@ overflow_sub-expired-2 c =
       kept.ok.0,
     )
 
-pub overflow_sub-result : goal.overflow_sub-result
-overflow_sub-result c =
+pub overflow_sub-done : goal.overflow_sub-done
+overflow_sub-done c =
     let now = civil_nanos c.args.now in
     let kept = c.in_ok-kept.kept in
     let entries = map entry_text c.args.entries.items in
