@@ -2,18 +2,15 @@
 
 Other visits are to a site that sends what is no answer, and while Redis is away: neither may end a worker.
 """
-import http.server
-import os
 import re
 import subprocess
 import sys
 import tempfile
-import threading
 import time
 from urllib.parse import urlsplit
 
 from . import bounded, pages, servers, site
-from .kit import TOP
+from .kit import TOP, written
 from .peers import environment
 
 # Of a worker on a calm machine, and how long Redis is away, in seconds.
@@ -35,7 +32,7 @@ MANGLED = {
 }
 
 
-class Shop(http.server.BaseHTTPRequestHandler):
+class Shop(site.Handler):
     """A proxy, behind which shop.test sets a cookie at /login and asks for it elsewhere; other hosts ask for none. At
     `?away` Redis goes away."""
 
@@ -56,17 +53,12 @@ class Shop(http.server.BaseHTTPRequestHandler):
         self.end_headers()
         self.wfile.write(b"ok")
 
-    def log_message(self, *_):
-        pass
-
 
 def wrong():
     """What is wrong with the visits, in words."""
-    with tempfile.TemporaryDirectory(prefix="example-") as room, site.Quiet(("127.0.0.1", 0), Shop) as shop:
-        threading.Thread(target=shop.serve_forever, daemon=True).start()
-        server = servers.Redis(room)
-        with open(f"{room}/list", "wb") as file:
-            file.write(LIST)
+    with tempfile.TemporaryDirectory(prefix="example-") as room:
+        server, shop = servers.Redis(room), site.begun(Shop)
+        written(f"{room}/list", LIST)
         server.start()
         shop.redis = server
         env = {**environment(), "REDIS": f"redis://127.0.0.1:{server.port}", "LIST": f"{room}/list", "no_proxy": "",
@@ -80,12 +72,11 @@ def wrong():
 
 def visits(server, env):
     """What is wrong with visits before a log-in, the log-in, and visits of two workers behind it."""
-    steps = [(1, ["http://shop.test/a"], ["http://shop.test/a 403"]),
-             (1, ["http://shop.test/login"], ["http://shop.test/login 200 2"]),
-             (2, *both(*(f"http://{host}/{i}" for i in PATHS for host in ("shop.test", "www.shop.test", "b.test"))))]
-    for workers, urls, wanted in steps:
+    shared = [f"http://{host}/{i}" for i in PATHS for host in ("shop.test", "www.shop.test", "b.test")]
+    for workers, urls, status in ((1, ["http://shop.test/a"], "403"), (1, ["http://shop.test/login"], "200 2"),
+                                  (2, shared, "200 2")):
         said = visited(server, workers, urls, env)
-        if sorted(said) != sorted(wanted):
+        if sorted(said) != sorted(f"{url} {status}" for url in urls):
             return [f"of {urls} was said {said}"]
     block = pages.filled("# README: README.md python 2\n")
     said = bounded.run([sys.executable, "-B", "-c", block], SECONDS, env=env)
@@ -116,10 +107,6 @@ def visits_without_redis(server, env):
     said = said_by([worker])
     is_right = len(said) == 2 and " failed: ConnectionError" in said[0] and said[1] == "http://b.test/1 200 2"
     return [] if is_right else [f"a worker without Redis said {said}"]
-
-
-def both(*urls):
-    return [*urls], [f"{url} 200 2" for url in urls]
 
 
 def visited(server, workers, urls, env):

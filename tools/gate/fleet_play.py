@@ -11,6 +11,7 @@ import time
 
 from . import fleet, servers
 from .bounded import patience
+from .site import Quiet
 
 WORKERS = 8
 # Of a play of a thousand exchanges, in seconds on a calm machine.
@@ -30,8 +31,8 @@ class Play:
         self.redis, self.pids, self.logs = servers.Redis(room), {}, []
         self.killed, self.restarts, self.failed = 0, 0, []
         self.bound = mmap.mmap(-1, 8)
-        server = fleet.Server(hosts)
-        self.port = server.server_address[1]
+        server = Quiet(("127.0.0.1", 0), fleet.Site)
+        server.hosts, self.port = hosts, server.server_port
         self.site = forked(server.serve_forever)
         server.socket.close()
         self.redis.start()
@@ -78,17 +79,13 @@ class Play:
                 self.hold(events)
 
     def reap(self):
-        """Looks which workers have ended."""
+        """Looks which workers have ended, and keeps how one did that didn't end well."""
         for pid in [*self.pids]:
             ended, status = os.waitpid(pid, os.WNOHANG)
             if ended:
                 del self.pids[pid]
-                self.look(status)
-
-    def look(self, status):
-        """Keeps how a worker ended by itself, if it didn't end well."""
-        if status:
-            self.failed.append(f"a worker ended by {os.waitstatus_to_exitcode(status)}")
+            if status:
+                self.failed.append(f"a worker ended by {os.waitstatus_to_exitcode(status)}")
 
     def progress(self):
         """How many exchanges were begun, of those workers that are there, as far as the slowest."""
@@ -103,9 +100,9 @@ class Play:
         pid = self.draw.choice([*self.pids])
         mine, path = self.pids.pop(pid)
         os.kill(pid, signal.SIGKILL)
-        status = os.waitpid(pid, 0)[1]
-        if status != signal.SIGKILL:
-            self.look(status)
+        status = os.waitstatus_to_exitcode(os.waitpid(pid, 0)[1])
+        if status != -signal.SIGKILL:
+            self.failed += [f"a worker ended by {status}"] if status else []
             return
         self.killed += 1
         self.begin(range(max(last_of(path) + WORKERS, mine.start), mine.stop, WORKERS))

@@ -7,7 +7,7 @@ import socket
 import subprocess
 import sys
 
-from .bounded import patience
+from .bounded import patience, run
 from .kit import TOP
 
 OUT = f"{TOP}/out"
@@ -43,6 +43,12 @@ def held_port():
     held.setsockopt(socket.SOL_SOCKET, socket.SO_REUSEADDR, 1)
     held.bind(("127.0.0.1", 0))
     return held
+
+
+def tested(words, seconds, folder):
+    """How a command ended that uses the library in a folder, and what it wrote."""
+    status, out, err = run(words, seconds, cwd=folder, env=environment())
+    return status, (out + err).decode(errors="replace")
 
 
 def environment():

@@ -27,6 +27,13 @@ def is_awaited(is_there):
     return True
 
 
+def await_answer(server):
+    """Has a server answer that was started; one that doesn't ends."""
+    if not is_awaited(server.answers):
+        server.kill()
+        raise TimeoutError(f"{type(server).__name__} doesn't answer")
+
+
 class Redis:
     """A server of Redis on a port of loopback that is its own, which writes down each change before it tells of it."""
 
@@ -39,9 +46,7 @@ class Redis:
 
     def start(self):
         self.process = subprocess.Popen(self.words, stdout=subprocess.DEVNULL)
-        if not is_awaited(self.answers):
-            self.kill()
-            raise TimeoutError("redis-server doesn't answer")
+        await_answer(self)
 
     def answers(self):
         """Whether it has read its file and answers."""
@@ -108,10 +113,10 @@ class Postgres:
         subprocess.run(words, check=True, **self.how)
         words = [self.program("postgres"), "-D", self.data, "-k", self.folder, "-c", "listen_addresses="]
         self.process = subprocess.Popen(words, **self.how)
-        if not is_awaited(lambda: subprocess.run([self.program("pg_isready"), "-h", self.folder, "-q"],
-                                                 check=False).returncode == 0):
-            self.kill()
-            raise TimeoutError("postgres doesn't answer")
+        await_answer(self)
+
+    def answers(self):
+        return subprocess.run([self.program("pg_isready"), "-h", self.folder, "-q"], check=False).returncode == 0
 
     def kill(self):
         """Has it end, with what its connections do, and kills it where it doesn't."""

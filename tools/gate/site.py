@@ -16,14 +16,22 @@ EXAMPLE = "sid=a3f; Path=/; Max-Age=3600"
 HOSTS = ("shop.com", "*.shop.com")
 
 
-class Site(BaseHTTPRequestHandler):
+class Handler(BaseHTTPRequestHandler):
+    """Answers requests, and writes nothing of them."""
+
+    protocol_version = "HTTP/1.1"
+
+    def log_message(self, *_):
+        pass
+
+
+class Site(Handler):
     """Answers each request with the next of what is to be said to its visit, and keeps the cookies that it has,
     the host that it asks, and the whole of it.
 
     A visit is what the field X-Visit names; one without it is that of an example. What is said are lines to set, a
     Location or None, and a status line's words where they aren't the usual ones."""
 
-    protocol_version = "HTTP/1.1"
     said, heard, asked, had = {}, defaultdict(list), defaultdict(list), defaultdict(list)
 
     def do_GET(self):
@@ -42,9 +50,6 @@ class Site(BaseHTTPRequestHandler):
 
     do_HEAD = do_POST = do_PUT = do_GET
 
-    def log_message(self, *_):
-        pass
-
 
 class Quiet(ThreadingHTTPServer):
     daemon_threads, request_queue_size = True, 64
@@ -62,14 +67,19 @@ class Quiet(ThreadingHTTPServer):
         """Says nothing of a client that went: what it wasn't told is missed where it is compared."""
 
 
-def serve(certificate=None):
-    """The port of a server that ends with this process."""
-    server = Quiet(("127.0.0.1", 0), Site)
+def begun(handler, certificate=None):
+    """A server that ends with this process, by https where it has a certificate."""
+    server = Quiet(("127.0.0.1", 0), handler)
     if certificate:
         server.context = ssl.SSLContext(ssl.PROTOCOL_TLS_SERVER)
         server.context.load_cert_chain(certificate)
     threading.Thread(target=server.serve_forever, daemon=True).start()
-    return server.server_port
+    return server
+
+
+def serve(certificate=None, handler=Site):
+    """The port of such a server."""
+    return begun(handler, certificate).server_port
 
 
 def asked_of(client):
