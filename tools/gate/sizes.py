@@ -1,11 +1,13 @@
-"""The public calls that take memory, as tools/measured tells them above the functions that make them at their largest,
-held against the sources."""
+"""The public calls that take memory, as tools/measured/largest.txt tells them above each of its rows, held against the
+sources."""
 import glob
 import os
 import re
 
-# A function with the calls that it makes, a line each `// CRATE: CALL..`.
-ROW = re.compile(r"((?:^// \w+: .*\n)+)pub fn (\w+)\(", re.M)
+from .kit import text_of
+
+# A row with the calls that it makes, a line each `// CRATE: CALL..`.
+ROW = re.compile(r"((?:^// \w+: .*\n)+)large (\w+):", re.M)
 # A public function, up to its contract or its body; and a type's block.
 HEAD = re.compile(r'^( *)pub (?:extern "C" )?fn (\w+)(.*?)(?=\{$|;$|^ *(?:ensures|requires|ghost)\b)', re.M | re.S)
 BLOCK = re.compile(r"^impl(?:<.*?>)? (?:\w+(?:<.*?>)? for )?(\w+)", re.M)
@@ -13,23 +15,17 @@ EXPORTED = re.compile(r"^pub use (?:[\w:]+::)?(\{[^}]*\}|\w+);", re.M | re.S)
 GIVES_ERROR = re.compile(r"->.*Result\b", re.S)
 
 
-def read(path):
-    with open(path, encoding="utf-8") as file:
-        return file.read()
-
-
 def rows(top):
-    """The functions, each with its calls as (crate, call)."""
-    texts = map(read, sorted(glob.glob(f"{top}/tools/measured/*.rt.txt")))
+    """The rows, each with its calls as (crate, call)."""
     return {name: {(crate, it) for crate, calls in re.findall(r"// (\w+): (.*)", told) for it in calls.split()}
-            for text in texts for told, name in ROW.findall(text)}
+            for told, name in ROW.findall(text_of(f"{top}/tools/measured/largest.txt"))}
 
 
 def calls_of(top, crate):
     """The public calls of a crate whose answer may be an error, each as its type and name."""
     source = f"{top}/crates/{crate}/src"
     paths = glob.glob(f"{source}/**/*.rt", recursive=True)
-    texts = {os.path.relpath(it, source).removesuffix(".rt"): read(it) for it in paths}
+    texts = {os.path.relpath(it, source).removesuffix(".rt"): text_of(it) for it in paths}
     lists = [names for text in texts.values() for names in EXPORTED.findall(text)]
     exported = {it for names in lists for it in re.findall(r"\w+", names)}
     found = set()
