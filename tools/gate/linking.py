@@ -7,13 +7,9 @@ import subprocess
 import sys
 import tempfile
 
-sys.dont_write_bytecode = True
-sys.path.insert(0, os.path.dirname(os.path.dirname(os.path.abspath(__file__))))
+from . import library, program as programs
+from .kit import CC, TOP, place, read, written
 
-from gate import library, program as programs
-from gate.kit import CC, place
-
-TOP = programs.TOP
 # The number in the shared library's name, which changes with what it exports.
 SONAME = "libfonnalich.so.0"
 # A compiler for aarch64, which links the programs for it with its C library.
@@ -26,17 +22,6 @@ PACKAGING = f"{TOP}/tools/packaging"
 # What stands for the toolchain's functions in C in a program for aarch64.
 FOR_ARM = (f"{TOP}/bindings/c/heap.c", f"{PACKAGING}/os.c")
 PLAIN = ("--build-id=none", "-z", "now", "-z", "relro", "--gc-sections", "-s")
-
-
-def written(path, text):
-    with open(path, "w", encoding="utf-8") as to:
-        to.write(text)
-    return path
-
-
-def read(path):
-    with open(path, "rb") as file:
-        return file.read()
 
 
 def run(*words):

@@ -19,7 +19,6 @@ bool open_text(const uint8_t *key, const uint8_t *nonce, TEXT(aad), uint8_t *tex
                const uint8_t *tag);
 bool ends_early(const uint8_t *a, const uint8_t *b);
 uint8_t looks_up(const uint8_t *table, uint8_t key);
-void branches(const uint8_t *h, const uint8_t *block, uint8_t *product);
 void masks(const uint8_t *h, const uint8_t *block, uint8_t *product);
 
 static uint8_t master[40], key[64], other_key[64], nonce[12], name[20], text[41], sealed[41], tag[16], code[32];
@@ -142,7 +141,6 @@ static void compares_codes(void) {
     X(text_opened, opens()) \
     X(planted_end, compares_codes()) \
     X(planted_look_up, SECRET(key); looks_up(table, key[0])) \
-    X(planted_branch, SECRET(h); branches(h, block, product)) \
     X(planted_mask, SECRET(h); masks(h, block, product))
 LOOKS(DEFINED)
 
