@@ -151,37 +151,13 @@ def hasty(module, store):
     module.Fleet._is_put = lambda *words: is_put(*words) or True
 
 
-def forgetful(module, store):
-    """A fleet that saves what a client's file has: no cookie without an expiry."""
-    module._text = lambda client: client.save(NOW)
-
-
-def stale(module, store):
-    """A fleet whose headers are of what it read of a key at first."""
-    first, get, header = {}, store.get, module.Fleet.header
-
-    def read(self, *words):
-        store.get = lambda key: first.setdefault(key, get(key))
-        try:
-            return header(self, *words)
-        finally:
-            store.get = get
-    module.Fleet.header = read
-
-
-def idle(module, store):
-    """A fleet that puts nothing, and tells of nothing."""
-    import redis
-    module.Fleet.receive = lambda *_: (_ for _ in ()).throw(redis.ConnectionError)
-
-
 def bare(module, store):
     """A fleet that loses of its cookies what no header has."""
     text = module._text
     module._text = lambda client: text(client).replace(b"; HttpOnly", b"")
 
 
-PLANTS = {it.__name__: it for it in (blind, hasty, forgetful, stale, idle, bare)}
+PLANTS = {it.__name__: it for it in (blind, hasty, bare)}
 
 
 # ---- the one client
@@ -207,7 +183,6 @@ class Judge:
         self.replay()
 
     def follow(self, notes):
-        """Keeps a worker's notes."""
         for note in notes:
             number = note["number"]
             site, place = Exchange(number, self.hosts).site, self.place_of.get(number, -1)
@@ -284,5 +259,4 @@ def number_of(version):
 
 
 def tries_of(version):
-    """How often an exchange was tried until it put this."""
     return struct.unpack(">QQ", version)[1] & 0xFFFFFFFF

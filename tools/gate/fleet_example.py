@@ -55,7 +55,6 @@ class Shop(site.Handler):
 
 
 def wrong():
-    """What is wrong with the visits, in words."""
     with tempfile.TemporaryDirectory(prefix="example-") as room:
         server, shop = servers.Redis(room), site.begun(Shop)
         written(f"{room}/list", LIST)
@@ -110,7 +109,6 @@ def visits_without_redis(server, env):
 
 
 def visited(server, workers, urls, env):
-    """The lines of workers that visit these URLs together."""
     put(server, urls)
     return said_by([begun_worker(env) for _ in range(workers)])
 
@@ -123,7 +121,6 @@ def put(server, urls):
 
 
 def begun_worker(env):
-    """The process of a worker."""
     words = [sys.executable, "-B", f"{TOP}/examples/fleet/worker.py"]
     return subprocess.Popen(words, env=env, stdout=subprocess.PIPE, text=True)
 

@@ -54,7 +54,6 @@ class Play:
             yield number
 
     def hold(self, events):
-        """Tells the workers how far they may go."""
         self.bound[:] = (events[0][0] + AHEAD if events else self.exchanges).to_bytes(8, "big")
 
     def drawn_events(self):
@@ -143,7 +142,6 @@ def forked(call):
 
 
 def notes_of(path):
-    """What a worker wrote down."""
     with open(path, "rb") as log:
         return [json.loads(line) for line in log if line.endswith(b"\n")]
 

@@ -4,8 +4,6 @@ Its module in LLVM's text is kept in out/measured by the sum of what it is made 
 `tools/no-secret-time` make archives of parts of it.
 """
 import hashlib
-import importlib.machinery
-import importlib.util
 import json
 import os
 import re
@@ -15,8 +13,8 @@ import sys
 import tempfile
 
 from gate import compiler, program
-from gate.kit import TOP, load_rt, place, say, text_of, written
-from gate.sources import sum_of_files, walked
+from gate.kit import TOP, load_rt, load_script, place, say, text_of, version_of_rt, written
+from gate.sources import needs_of, sum_of_files, walked
 
 HERE, CRATE, KEPT = f"{TOP}/tools/measured", "measured", f"{TOP}/out/measured/module.ll"
 X86, ARM = "x86_64-unknown-linux-gnu", "aarch64-unknown-linux-gnu"
@@ -97,14 +95,6 @@ PART = re.compile(r"^define .*?^\}\n|^@[^\n]*\n", re.M | re.S)
 NAME = re.compile(r'@("[^"]*"|[\w.$-]+)')
 
 
-def load_script(path, name):
-    """A script as a module."""
-    loader = importlib.machinery.SourceFileLoader(name, path)
-    made = sys.modules[name] = importlib.util.module_from_spec(importlib.util.spec_from_loader(name, loader))
-    loader.exec_module(made)
-    return made
-
-
 def load_build(top):
     return load_script(f"{top}/bindings/build", "build")
 
@@ -119,12 +109,6 @@ def ended(words, **how):
 
 
 # ---- the sources
-
-def needs_of(text):
-    """What each line of a crates.txt says that a crate stands on."""
-    lines = [it.split("#")[0].partition(":") for it in text.splitlines()]
-    return {head.split()[0]: needs.split() for head, colon, needs in lines if colon}
-
 
 def needed(top, line):
     """The lines of a tree's crates.txt that this one stands on, and this one."""
@@ -165,7 +149,6 @@ def done(call):
 
 
 def value(type_):
-    """A value of an export's argument."""
     array = re.fullmatch(r"(&(?:mut )?)\[u8; (\d+)\]", type_)
     return f"{array[1]}[0; {array[2]}]" if array else VALUES.get(type_, "0")
 
@@ -192,7 +175,7 @@ def made_of(top):
     parts = [f"crates/{it}/{part}" for it in needed(top, text_of(f"{top}/tools/measured/crate.txt")) for part in PARTS]
     crates = sum_of_files(top, walked(top, "crates.txt", *parts))
     calls = hashlib.sha256(json.dumps(sources(top), sort_keys=True).encode()).hexdigest()
-    return f"toolchain={ended(['rt', 'version']).strip()}\nsources={crates} {calls}\n"
+    return f"toolchain={version_of_rt()}\nsources={crates} {calls}\n"
 
 
 def module():
@@ -281,5 +264,4 @@ def archive(text, room, exports, level="-O2", changed=lambda text: text, target=
 
 
 def exports_of(path):
-    """The names of the exports of a source."""
     return [name for name, _ in EXPORT.findall(text_of(f"{TOP}/{path}"))]

@@ -107,7 +107,6 @@ def static(words, parts):
 
 
 def objects_of(command):
-    """What a program is linked of, as the toolchain left it."""
     return [programs.built_for(command, "x86_64"), place("os"), place("libc")]
 
 

@@ -28,7 +28,6 @@ def is_awaited(is_there):
 
 
 def await_answer(server):
-    """Has a server answer that was started; one that doesn't ends."""
     if not is_awaited(server.answers):
         server.kill()
         raise TimeoutError(f"{type(server).__name__} doesn't answer")

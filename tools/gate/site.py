@@ -78,7 +78,6 @@ def begun(handler, certificate=None):
 
 
 def serve(certificate=None, handler=Site):
-    """The port of such a server."""
     return begun(handler, certificate).server_port
 
 

@@ -16,7 +16,6 @@ GIVES_ERROR = re.compile(r"->.*Result\b", re.S)
 
 
 def rows(top):
-    """The rows, each with its calls as (crate, call)."""
     return {name: {(crate, it) for crate, calls in re.findall(r"// (\w+): (.*)", told) for it in calls.split()}
             for told, name in ROW.findall(text_of(f"{top}/tools/measured/largest.txt"))}
 

@@ -2,7 +2,7 @@
 import os
 import shutil
 
-TOP = os.path.dirname(os.path.dirname(os.path.dirname(os.path.abspath(__file__))))
+from .kit import TOP
 
 
 def copied(room, left_out=()):

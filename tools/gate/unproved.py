@@ -30,7 +30,6 @@ FAILED = re.compile(r"\bmade to fail: (\d+) (\d+) (\d+) (\d+)$", re.M)
 
 
 def sources():
-    """The paths of its sources, from tests/ on."""
     found = [os.path.join(at, it) for at, _, names in os.walk(f"{TOP}/tests") for it in names if it.endswith(SUFFIX)]
     return sorted(os.path.relpath(it, f"{TOP}/tests") for it in found)
 
@@ -128,7 +127,6 @@ def listed(command):
 
 
 def run_one(command, name, room):
-    """Whether the test passed, and what it wrote."""
     with tempfile.TemporaryDirectory(dir=room) as folder:
         how = {"stdin": subprocess.DEVNULL, "stdout": subprocess.PIPE, "stderr": subprocess.STDOUT}
         try:

@@ -8,9 +8,7 @@
 
 bool derive_key(TEXT(master_key), uint8_t *key);
 bool same_keys(TEXT(a), TEXT(b));
-void sign(TEXT(key), TEXT(text), uint8_t *code);
 size_t sign_value(TEXT(key), TEXT(value), uint8_t *out, size_t out_length);
-bool verify_text(TEXT(key), TEXT(text));
 size_t seal_value(TEXT(key), TEXT(name), TEXT(value), uint8_t *out, size_t out_length);
 size_t verify_under_ring(TEXT(keys), TEXT(text));
 size_t open_under_ring(TEXT(keys), TEXT(name), TEXT(text));
@@ -19,10 +17,9 @@ bool open_text(const uint8_t *key, const uint8_t *nonce, TEXT(aad), uint8_t *tex
                const uint8_t *tag);
 bool ends_early(const uint8_t *a, const uint8_t *b);
 uint8_t looks_up(const uint8_t *table, uint8_t key);
-void masks(const uint8_t *h, const uint8_t *block, uint8_t *product);
 
 static uint8_t master[40], key[64], other_key[64], nonce[12], name[20], text[41], sealed[41], tag[16], code[32];
-static uint8_t signing[44 + sizeof text], other_code[32], table[256], h[16], block[16], product[16];
+static uint8_t other_code[32], table[256];
 
 /* A ring of keys one behind another, and one more key that isn't in it. */
 enum { KEYS = 5, NONE = 99 };
@@ -55,24 +52,6 @@ static void compares(void) {
         SECRET(key);
         SECRET(other_key);
         answers(same_keys(ALL(key), ALL(other_key)), !i, "same_keys");
-    }
-}
-
-static void signs(void) {
-    SECRET(key);
-    SECRET(text);
-    sign(ALL(key), ALL(text), code);
-}
-
-/* What was sent is known: with the code that is right, and with one whose last byte is another one. */
-static void verifies(void) {
-    for (int i = 0; i < 2; i++) {
-        demand(sign_value(ALL(key), ALL(text), ALL(signing)) == sizeof signing, "sign_value");
-        signing[42] = i ? (signing[42] == 'A' ? 'E' : 'A') : signing[42];
-        SECRET(key);
-        verdicts++;
-        answers(verify_text(ALL(key), ALL(signing)), !i, "verify_text");
-        PUBLIC(key);
     }
 }
 
@@ -133,15 +112,12 @@ static void compares_codes(void) {
 #define LOOKS(X) \
     X(key_derived, derives()) \
     X(keys_compared, compares()) \
-    X(text_signed, signs()) \
-    X(text_verified, verifies()) \
     X(text_verified_under_ring, reads_under_ring(false)) \
     X(text_opened_under_ring, reads_under_ring(true)) \
     X(text_sealed, seals()) \
     X(text_opened, opens()) \
     X(planted_end, compares_codes()) \
-    X(planted_look_up, SECRET(key); looks_up(table, key[0])) \
-    X(planted_mask, SECRET(h); masks(h, block, product))
+    X(planted_look_up, SECRET(key); looks_up(table, key[0]))
 LOOKS(DEFINED)
 
 static void count_under_ring(bool is_sealed, size_t by, bool is_kept) {
@@ -167,6 +143,11 @@ static void counts(void) {
 
 int main(int count, char **words) {
     prepare();
-    TAKE_ALL(LOOKS, count, words, counts)
+    if (count > 1 && strcmp(words[1], "counts") == 0) {
+        /* (what is taken from the system and given back to it hangs on what was asked before) */
+        mallopt(M_TRIM_THRESHOLD, 1 << 30);
+        counts();
+    }
+    LOOKS(TAKEN)
     return 0;
 }

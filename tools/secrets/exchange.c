@@ -1,5 +1,4 @@
-/* Exchanges by a key of which nothing is known, and by a ring of such keys. With the word `counts` it has callgrind
-   write down how many instructions readings take whose codes, or whose sealed texts, are wrong at one place. */
+/* Exchanges by a key of which nothing is known, and by a ring of such keys. */
 #include "fonnalich.h"
 #include "secrets.h"
 
@@ -137,7 +136,8 @@ static void reads_wrong(char way, const int *places, int count) {
     }
 }
 
-/* The first, a middle and the last byte of a code, and the value. */
+/* The first, a middle and the last byte of a code, and the value: a comparison that ends where two differ has more
+   branches than verdicts there. */
 static const int CODES[] = {0, 21, 42, 44};
 /* Those of a nonce and of the text's beginning, and of the tag. */
 static const int SEALINGS[] = {0, 15, 16, -20, -11, -1};
@@ -183,27 +183,6 @@ static void reads_until(char way) {
     X(reads_sealed_until, reads_until(*FONNALICH_SEALED_UNTIL))
 LOOKS(DEFINED)
 
-/* Has callgrind write down what a reading takes that is wrong at a place, where it is to be kept. */
-static void count(char way, int place, int is_kept) {
-    char header[512], name[32];
-    strcpy(header, wrong(way, VALUES[1], place));
-    snprintf(name, sizeof name, "%s %d", way == *FONNALICH_SIGNED ? "signed" : "sealed", place);
-    get(way, header);
-    CALLGRIND_ZERO_STATS;
-    get(way, header);
-    if (is_kept)
-        CALLGRIND_DUMP_STATS_AT(name);
-}
-
-static void counts(void) {
-    count(*FONNALICH_SIGNED, 1, 0);
-    count(*FONNALICH_SEALED, 1, 0);
-    for (int place = 0; place < 43; place += 2)
-        count(*FONNALICH_SIGNED, place, 1);
-    for (int i = 0; i < COUNT(SEALINGS); i++)
-        count(*FONNALICH_SEALED, SEALINGS[i], 1);
-}
-
 int main(int count, char **words) {
     for (int i = 0; i < FONNALICH_KEY_LENGTH; i++)
         key[i] = (char)(7 * i + 1);
@@ -211,11 +190,9 @@ int main(int count, char **words) {
         memset(ring[i], (int)i + 1, sizeof ring[i]);
     for (int i = 0; i < FONNALICH_NONCE_LENGTH; i++)
         nonces[i] = (char)(11 * i + 3);
-    bool is_look = count > 1 && strcmp(words[1], "counts") != 0;
-    if (is_look) {
-        SECRET(key);
-        SECRET(ring);
-    }
-    TAKE_ALL(LOOKS, count, words, counts)
+    SECRET(key);
+    SECRET(ring);
+    (void)count;
+    LOOKS(TAKEN)
     return 0;
 }
