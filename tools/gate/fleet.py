@@ -254,9 +254,11 @@ class Judge:
                 self.wrong.append(f"{number} had {header!r}, one client {alone!r}")
 
 
+def stamp_of(version):
+    """The number of the exchange that put this, and how often it was tried until then."""
+    number, tries = struct.unpack(">QQ", version)
+    return number, tries & 0xFFFFFFFF
+
+
 def number_of(version):
-    return struct.unpack(">QQ", version)[0]
-
-
-def tries_of(version):
-    return struct.unpack(">QQ", version)[1] & 0xFFFFFFFF
+    return stamp_of(version)[0]

@@ -11,6 +11,7 @@ import time
 
 from . import fleet, servers
 from .bounded import patience
+from .kit import read
 from .site import Quiet
 
 WORKERS = 8
@@ -115,9 +116,9 @@ class Play:
             order.append((key, value[:16]))
             texts[key] = value[16:]
         lost = self.killed + WORKERS * self.restarts
-        notes = [notes_of(it) for it in self.logs]
+        notes = [[json.loads(line) for line in read(it).splitlines(True) if line.endswith(b"\n")] for it in self.logs]
         wrong = fleet.Judge(order, texts, notes, self.exchanges, self.hosts, lost).wrong
-        return wrong, sum(fleet.tries_of(it) - 1 for _, it in order), len(order)
+        return wrong, sum(fleet.stamp_of(it)[1] - 1 for _, it in order), len(order)
 
     def end(self):
         for pid in [*self.pids, self.site]:
@@ -139,11 +140,6 @@ def forked(call):
         sys.excepthook(*sys.exc_info())
     finally:
         os._exit(status)
-
-
-def notes_of(path):
-    with open(path, "rb") as log:
-        return [json.loads(line) for line in log if line.endswith(b"\n")]
 
 
 def last_of(path):

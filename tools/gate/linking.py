@@ -66,7 +66,8 @@ def program(processor, command):
     if not programs.is_built_for(command, processor):
         raise Unlinked(f"there is no object of it for {processor} of these sources by this toolchain")
     try:
-        return static(words, objects_for_arm(command) if is_arm else objects_of(command))
+        beside = FOR_ARM if is_arm else (place("os"), place("libc"))
+        return static(words, [programs.built_for(command, processor), *beside])
     except subprocess.CalledProcessError:
         sys.exit(f"package: '{shlex.join(words)}' doesn't link {command}, as stands above")
 
@@ -104,12 +105,3 @@ def static(words, parts):
         objects = [in_c(it) if it.endswith(".c") else it for it in parts]
         run(*words, *objects, *flags, "-o", f"{room}/made")
         return read(f"{room}/made")
-
-
-def objects_of(command):
-    return [programs.built_for(command, "x86_64"), place("os"), place("libc")]
-
-
-def objects_for_arm(command):
-    """The same for aarch64, with the functions in C that the toolchain has for x86-64 alone."""
-    return [programs.built_for(command, "aarch64"), *FOR_ARM]

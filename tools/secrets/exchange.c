@@ -9,59 +9,48 @@ enum { VALUES_COUNT = 2 };
 enum { NOW = 1700000000, HOUR = 3600 };
 #define UNTIL "; Expires=Tue, 14 Nov 2023 23:13:20 GMT"
 
-/* A ring of keys, and behind it one that isn't in it. */
+/* A key; and a ring of keys, and behind it one that isn't in it. */
 enum { KEYS = 3 };
+static char key[FONNALICH_KEY_LENGTH], ring[KEYS + 1][FONNALICH_KEY_LENGTH], nonces[FONNALICH_NONCE_LENGTH];
 static const int64_t ends[KEYS - 1] = {FONNALICH_NO_END, NOW + 2 * HOUR};
-static char ring[KEYS + 1][FONNALICH_KEY_LENGTH];
-
-static char key[FONNALICH_KEY_LENGTH], nonces[FONNALICH_NONCE_LENGTH];
 /* The answer of the last exchange, and the item at its front. */
 static char out[1024];
 static const char *item;
 static ptrdiff_t item_length;
 
-/* Takes the item at the front of an answer, of which all is told. */
-static void tell(ptrdiff_t length) {
-    PUBLIC(length);
+/* Makes an exchange on so many keys, by a command of a form, and takes the item at the front of the answer, of which all
+   is told. A ring of one key is asked by the call that takes a key. */
+static void ask(const char *keys, size_t count, int64_t second, const char *header, const char *form, char way,
+                const char *value) {
+    char command[128];
+    int length = snprintf(command, sizeof command, form, way, value);
+    ptrdiff_t got = keys == key
+        ? fonnalich_exchange(key, sizeof key, header, strlen(header), second, command, (size_t)length, nonces,
+                             sizeof nonces, out, sizeof out)
+        : fonnalich_exchange_on_ring(keys, count * FONNALICH_KEY_LENGTH, ends, count - 1, header, strlen(header), second,
+                                     command, (size_t)length, nonces, sizeof nonces, out, sizeof out);
+    PUBLIC(got);
     PUBLIC(out);
     const char *at = out;
-    demand(length > 0 && length <= (ptrdiff_t)sizeof out, "an exchange");
-    demand(fonnalich_next(&at, out + length, &item, &item_length), "an exchange");
-}
-
-/* Makes an exchange. */
-static void ask(const char *header, const char *commands) {
-    tell(fonnalich_exchange(key, sizeof key, header, strlen(header), NOW, commands, strlen(commands), nonces,
-                            sizeof nonces, out, sizeof out));
-}
-
-/* Makes one on a ring of so many keys. */
-static void ask_on(const char *keys, size_t count, int64_t second, const char *header, const char *commands) {
-    tell(fonnalich_exchange_on_ring(keys, count * FONNALICH_KEY_LENGTH, ends, count - 1, header, strlen(header), second,
-                                    commands, strlen(commands), nonces, sizeof nonces, out, sizeof out));
+    demand(got > 0 && got <= (ptrdiff_t)sizeof out, "an exchange");
+    demand(fonnalich_next(&at, out + got, &item, &item_length), "an exchange");
 }
 
 static void set(char way, const char *value) {
-    char command[128];
-    snprintf(command, sizeof command, FONNALICH_SET "%cuser=%s", way, value);
-    ask("", command);
+    ask(key, 1, NOW, "", FONNALICH_SET "%cuser=%s", way, value);
 }
 
 static void get(char way, const char *header) {
-    char command[] = FONNALICH_GET "-user";
-    command[1] = way;
     verdicts++;
-    ask(header, command);
+    ask(key, 1, NOW, header, FONNALICH_GET "%cuser%s", way, "");
 }
 
 static void set_until(const char *keys, size_t count, char way, const char *value) {
-    char command[128];
-    snprintf(command, sizeof command, FONNALICH_SET "%cuser=%s" UNTIL, way, value);
-    ask_on(keys, count, NOW, "", command);
+    ask(keys, count, NOW, "", FONNALICH_SET "%cuser=%s" UNTIL, way, value);
 }
 
 /* The header that brings back what the line at the front of the answer sets, not escaped. */
-static const char *brought_back(void) {
+static char *brought_back(void) {
     static char header[512];
     char *to = header;
     for (const char *at = item; *at != ';'; at++) {
@@ -75,7 +64,7 @@ static const char *brought_back(void) {
 }
 
 /* The header that brings a value back, made by a key of which all is known. */
-static const char *header_of(char way, const char *value) {
+static char *header_of(char way, const char *value) {
     PUBLIC(key);
     set(way, value);
     SECRET(key);
@@ -104,8 +93,7 @@ static char another(char letter) {
 
 /* The header with one bit changed of what stands at a place of the base64, counted from its end where it is below 0. */
 static const char *wrong(char way, const char *value, int place) {
-    static char header[512];
-    strcpy(header, header_of(way, value));
+    char *header = header_of(way, value);
     char *text = header + strlen("user="), *at = place < 0 ? strchr(text, 0) + place : text + place;
     while (*at == '=')
         at--;
@@ -151,11 +139,9 @@ static void sets_until(char way) {
 /* Reads what the key of a place made. There is a verdict for each key of the ring, and one whether there is a value; of
    an opening the compiler asks for that of each key where it is kept, too. */
 static void read_until(char way, size_t place, int64_t second) {
-    char command[] = FONNALICH_GET "-user";
     const char *value = VALUES[place % VALUES_COUNT], *header = header_until(place, way, value);
-    command[1] = way;
     verdicts += (way == *FONNALICH_SEALED_UNTIL ? 2 * KEYS : KEYS) + 1;
-    ask_on(ring[0], KEYS, second, header, command);
+    ask(ring[0], KEYS, second, header, FONNALICH_GET "%cuser%s", way, "");
     int is_wanted = place < KEYS && second < NOW + HOUR;
     demand(is_wanted ? is_read(value) : item_length < 0, "a reading of a value that ends");
 }
