@@ -1,5 +1,6 @@
 /* The calls of tools/measured/secrets.rt.txt, where of no argument anything is known but its length. With the word
-   `counts` callgrind writes down how many instructions readings take under a ring, by the key that made what is read. */
+   `counts` callgrind writes down how many instructions readings take under a ring, by the key that made what is read.
+*/
 #include "secrets.h"
 
 /* A text with its length, as the library takes it. */
@@ -8,6 +9,7 @@
 
 bool derive_key(TEXT(master_key), uint8_t *key);
 bool same_keys(TEXT(a), TEXT(b));
+void sign(TEXT(key), TEXT(text), uint8_t *code);
 size_t sign_value(TEXT(key), TEXT(value), uint8_t *out, size_t out_length);
 size_t seal_value(TEXT(key), TEXT(name), TEXT(value), uint8_t *out, size_t out_length);
 size_t verify_under_ring(TEXT(keys), TEXT(text));
@@ -53,6 +55,12 @@ static void compares(void) {
         SECRET(other_key);
         answers(same_keys(ALL(key), ALL(other_key)), !i, "same_keys");
     }
+}
+
+static void signs(void) {
+    SECRET(key);
+    SECRET(text);
+    sign(ALL(key), ALL(text), code);
 }
 
 static size_t made_by(const uint8_t *by, bool is_sealed) {
@@ -112,6 +120,7 @@ static void compares_codes(void) {
 #define LOOKS(X) \
     X(key_derived, derives()) \
     X(keys_compared, compares()) \
+    X(text_signed, signs()) \
     X(text_verified_under_ring, reads_under_ring(false)) \
     X(text_opened_under_ring, reads_under_ring(true)) \
     X(text_sealed, seals()) \

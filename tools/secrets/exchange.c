@@ -18,8 +18,8 @@ static char out[1024];
 static const char *item;
 static ptrdiff_t item_length;
 
-/* Makes an exchange on so many keys, by a command of a form, and takes the item at the front of the answer, of which all
-   is told. A ring of one key is asked by the call that takes a key. */
+/* Makes an exchange on so many keys, by a command of a form, and takes the item at the front of the answer, of which
+   all is told. */
 static void ask(const char *keys, size_t count, int64_t second, const char *header, const char *form, char way,
                 const char *value) {
     char command[128];
@@ -27,8 +27,8 @@ static void ask(const char *keys, size_t count, int64_t second, const char *head
     ptrdiff_t got = keys == key
         ? fonnalich_exchange(key, sizeof key, header, strlen(header), second, command, (size_t)length, nonces,
                              sizeof nonces, out, sizeof out)
-        : fonnalich_exchange_on_ring(keys, count * FONNALICH_KEY_LENGTH, ends, count - 1, header, strlen(header), second,
-                                     command, (size_t)length, nonces, sizeof nonces, out, sizeof out);
+        : fonnalich_exchange_on_ring(keys, count * FONNALICH_KEY_LENGTH, ends, count - 1, header, strlen(header),
+                                     second, command, (size_t)length, nonces, sizeof nonces, out, sizeof out);
     PUBLIC(got);
     PUBLIC(out);
     const char *at = out;
@@ -154,8 +154,8 @@ static void reads_until(char way) {
     }
 }
 
-/* (of a reading of a signed value that ends and is right memcheck tells wherever its value goes, since the compiler takes
-   that by the verdict, and not by a branch) */
+/* (of a reading of a signed value that ends and is right memcheck tells wherever its value goes, since the compiler
+   takes that by the verdict, and not by a branch) */
 #define LOOKS(X) \
     X(sets_signed, sets(*FONNALICH_SIGNED)) \
     X(sets_sealed, sets(*FONNALICH_SEALED)) \
