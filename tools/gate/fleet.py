@@ -198,8 +198,7 @@ class Judge:
             self.moments.append((note["times"][1], 1, site, place, number))
 
     def look_back(self):
-        """Looks whether each header is of what was put or read before it was asked for, by any worker, or came later.
-        All workers have one clock."""
+        """Looks whether each header is of what was put or read before it was asked for. All workers have one clock."""
         last = {}
         for _, has_ended, site, place, number in sorted(self.moments):
             if has_ended:

@@ -33,8 +33,7 @@ MANGLED = {
 
 
 class Shop(site.Handler):
-    """A proxy, behind which shop.test sets a cookie at /login and asks for it elsewhere; other hosts ask for none. At
-    `?away` Redis goes away."""
+    """A proxy, where shop.test sets a cookie at /login and asks for it elsewhere. At `?away` Redis goes away."""
 
     def do_GET(self):
         url, had = urlsplit(self.path), self.headers.get("Cookie")
@@ -99,7 +98,7 @@ def visits_without_redis(server, env):
     """What is wrong with a worker from which Redis goes away in a visit, and for a while."""
     put(server, ["http://b.test/login?away", "http://b.test/1"])
     worker = begun_worker(env)
-    servers.is_awaited(lambda: server.process.poll() is not None or worker.poll() is not None)
+    bounded.is_awaited(lambda: server.process.poll() is not None or worker.poll() is not None, SECONDS)
     server.kill()
     time.sleep(AWAY)
     server.start()

@@ -63,8 +63,7 @@ class Play:
         return sorted((self.draw.randrange(self.exchanges * 3 // 4), it) for it in each)
 
     def run(self, events):
-        """Has all workers make their exchanges. `events` are the counts of exchanges at which something ends: a worker,
-        or Redis."""
+        """Has all workers make their exchanges. At the counts of `events` a worker ends, or Redis."""
         self.hold(events)
         for number in range(WORKERS):
             self.begin(range(number, self.exchanges, WORKERS))

@@ -179,8 +179,7 @@ def made_of(top):
 
 
 def module():
-    """The module of the tree in LLVM's text, which is compiled where none of these sources is kept. Where another
-    process compiles it, this one waits."""
+    """The module of the tree in LLVM's text, compiled where none of these sources is kept, by one process at a time."""
     made = made_of(TOP)
     with compiler.alone(f"{KEPT}.lock"):
         if program.noted(KEPT) != made:

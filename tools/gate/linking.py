@@ -41,8 +41,7 @@ def shared(processor, archive):
 
 
 def stubs(room, linker, processor):
-    """What stands for the libraries of C and of the compiler at a link: a library of the names that are taken of the
-    one, and the division of the other."""
+    """What stands at a link for the C library, by the names that are taken of it, and for the compiler's division."""
     build, target = library.load_build(TOP), f"{processor}-unknown-linux-gnu"
     names = written(f"{room}/names.c", "".join(f"void {it}(void) {{}}\n" for it in TAKEN))
     words = ["-shared", "-soname", "libc.so.6", f"--version-script={written(f'{room}/least', LEAST[processor])}"]

@@ -181,8 +181,7 @@ def is_built_for(command, processor):
 
 
 def build_for(command, processor):
-    """Proves and builds a program for a processor: for another than x86-64 its object alone, over what its own build
-    has kept."""
+    """Proves and builds a program for a processor: for another than x86-64 its object alone, over what is kept."""
     if processor == "x86_64":
         build(command)
         return
@@ -254,8 +253,7 @@ def put_compiled(command, room, path, log):
 
 
 def put_words(made, path):
-    """Puts a file where the program is made that runs it at the path where both will be, by the toolchain's C
-    library."""
+    """Puts a file where the program is made that runs it at its last path, by the toolchain's C library."""
     lib = place("lib")
     words = f'"{lib}/ld-linux-x86-64.so.2" --inhibit-cache --library-path "{lib}" "{path}.program" "$@"'
     os.chmod(written(made, f"#!/bin/sh\nexec {words}\n"), 0o755)

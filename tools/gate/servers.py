@@ -7,9 +7,8 @@ import shutil
 import signal
 import socket
 import subprocess
-import time
 
-from .bounded import patience
+from .bounded import is_awaited, patience
 from .peers import held_port
 
 # Of a server's start, and of its end, in seconds on a calm machine.
@@ -17,18 +16,8 @@ STARTING, ENDING = 20, 5
 DEBIANS = "/usr/lib/postgresql/*/bin"
 
 
-def is_awaited(is_there):
-    """Whether it is there in the time of a start."""
-    until = time.monotonic() + patience(STARTING)
-    while not is_there():
-        if time.monotonic() > until:
-            return False
-        time.sleep(0.02)
-    return True
-
-
 def await_answer(server):
-    if not is_awaited(server.answers):
+    if not is_awaited(server.answers, STARTING):
         server.kill()
         raise TimeoutError(f"{type(server).__name__} doesn't answer")
 

@@ -84,8 +84,7 @@ def sum_of_files(top, names):
 
 
 def commit(top):
-    """The commit of a tree, `+` behind it where files differ from it or are unknown to it, or None where there is none
-    or no git."""
+    """The commit of a tree, `+` behind it where files differ from it or are unknown to it, or None without one."""
     told = git(top, "status", "--porcelain=v2", "--branch")
     if told is None:
         return None

@@ -11,7 +11,7 @@ from dataclasses import dataclass, field
 sys.dont_write_bytecode = True
 sys.path.insert(0, os.path.dirname(os.path.dirname(os.path.abspath(__file__))))
 
-from gate import pages
+from gate import bounded, pages
 from gate.kit import CC, TOP, demand, load_rt, place, text_of, written
 from gate.script import side_by_side
 
@@ -128,12 +128,8 @@ def listed(command):
 
 def run_one(command, name, room):
     with tempfile.TemporaryDirectory(dir=room) as folder:
-        how = {"stdin": subprocess.DEVNULL, "stdout": subprocess.PIPE, "stderr": subprocess.STDOUT}
-        try:
-            ran = subprocess.run([*command, name], cwd=folder, timeout=SECONDS, **how)
-        except subprocess.TimeoutExpired:
-            return False, f"it had not ended after {SECONDS} seconds"
-    return not ran.returncode, ran.stdout.decode(errors="replace")
+        status, out, told = bounded.run([*command, name], SECONDS, cwd=folder)
+    return status == 0, (out + told).decode(errors="replace")
 
 
 def command_of(path):
