@@ -20,7 +20,6 @@ HERE, CRATE, KEPT = f"{TOP}/tools/measured", "measured", f"{TOP}/out/measured/mo
 X86, ARM = "x86_64-unknown-linux-gnu", "aarch64-unknown-linux-gnu"
 # The folders of a crate that a compile reads.
 PARTS = ("src", "specs")
-# How long a compile takes on a calm machine.
 SECONDS = 90
 # What code with no proof has: a fill of each local, and functions that check what a proof would show.
 FILL = re.compile(r"^  call void @llvm\.memset\.p0\.i64\(ptr %\w+, i8 -86, i64 \d+, i1 false\)\n", re.M)

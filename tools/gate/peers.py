@@ -11,7 +11,6 @@ from .compiler import alone
 from .kit import TOP
 
 OUT = f"{TOP}/out"
-# Seconds that a module may take to be imported, on a calm machine.
 SECONDS = 60
 
 

@@ -11,7 +11,6 @@ import subprocess
 from .bounded import is_awaited, patience
 from .peers import held_port
 
-# Of a server's start, and of its end, in seconds on a calm machine.
 STARTING, ENDING = 20, 5
 DEBIANS = "/usr/lib/postgresql/*/bin"
 
