@@ -106,7 +106,10 @@ def strangers(*answers):
         parts = next(left)
         had.append(asked_of(client))
         for part in parts if isinstance(parts, tuple) else (parts,):
-            client.sendall(part) if isinstance(part, bytes) else time.sleep(part)
+            if isinstance(part, bytes):
+                client.sendall(part)
+            else:
+                time.sleep(part)
 
     return begun(handling(say)).server_port, had
 
