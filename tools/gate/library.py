@@ -89,6 +89,9 @@ SHUFFLED = {X86: r"""  \g<shuffled>.table = load <16 x i8>, ptr \g<table>, align
 """}
 DECLARED = {X86: "declare <16 x i8> @llvm.x86.ssse3.pshuf.b.128(<16 x i8>, <16 x i8>)\n",
             ARM: "declare <16 x i8> @llvm.aarch64.neon.tbl1.v16i8(<16 x i8>, <16 x i8>)\n"}
+# What callgrind writes down of a dump: its label, and how many instructions there were.
+TRIGGER = re.compile(r"^desc: Trigger: Client Request: (.*)$", re.M)
+TOTAL = re.compile(r"^(?:summary|totals): (\d+)$", re.M)
 # A function or a global of a module, and a name.
 PART = re.compile(r"^define .*?^\}\n|^@[^\n]*\n", re.M | re.S)
 NAME = re.compile(r'@("[^"]*"|[\w.$-]+)')
@@ -105,6 +108,14 @@ def ended(words, **how):
     if ran.returncode:
         sys.exit(f"{ran.stdout}failed: {' '.join(words)}")
     return ran.stdout
+
+
+def counted(words, folder, **how):
+    """What a program writes under callgrind, and what that writes down of it, by the labels of its dumps."""
+    os.makedirs(folder)
+    wrote = ended(["valgrind", "--quiet", "--tool=callgrind", f"--callgrind-out-file={folder}/of", *words], **how)
+    texts = [text_of(f"{folder}/{it}") for it in os.listdir(folder)]
+    return wrote, {found[1]: text for text in texts if (found := TRIGGER.search(text))}
 
 
 # ---- the sources

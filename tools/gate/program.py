@@ -59,10 +59,6 @@ def given(path, command):
     return sys.exit(f"{os.path.basename(sys.argv[0])}: {found} is no program; `rt run` in crates/{name} builds it")
 
 
-def crates(command):
-    return crates_to(crate_of(command))
-
-
 def crates_to(crate):
     """The repository's crates that one is made of, itself the last."""
     uses, found = needs_of(text_of(f"{TOP}/crates.txt")), []
@@ -115,7 +111,7 @@ def noted(path):
 
 def compiled(command):
     """Where a program stands that is compiled of the sources as they are, by the toolchain that is here."""
-    parts = [f"crates/{name}/{part}" for name in crates(command) for part in ("src", "specs")]
+    parts = [f"crates/{name}/{part}" for name in crates_to(crate_of(command)) for part in ("src", "specs")]
     sums = sum_of_files(TOP, walked(TOP, "crates.txt", *parts)) + os.path.realpath(load_rt().rtlib.KIT)
     return f"{COMPILED}/{command}/{hashlib.sha256(sums.encode()).hexdigest()[:32]}/{command}"
 
@@ -149,7 +145,7 @@ def build(command):
         with contextlib.suppress(FileNotFoundError):
             os.remove(f"{built(command)}{ending}")
     os.makedirs(f"{TOP}/out", exist_ok=True)
-    progress, log, names, began = Progress(command), LOG.format("build"), crates(command), time.time()
+    progress, log, names, began = Progress(command), LOG.format("build"), crates_to(crate_of(command)), time.time()
     with open(log, "wb") as to, tempfile.TemporaryDirectory() as room:
         for number, name in enumerate(names, 1):
             progress.show(f"proving and building {name}, crate {number} of {len(names)}")
