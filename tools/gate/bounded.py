@@ -12,6 +12,14 @@ def patience(seconds):
     return seconds * max(1, 2 * os.getloadavg()[0] / len(os.sched_getaffinity(0)))
 
 
+def is_awaited(holds, seconds):
+    """Whether something comes to hold in its time."""
+    until = time.monotonic() + patience(seconds)
+    while not (is_so := holds()) and time.monotonic() < until:
+        time.sleep(0.02)
+    return is_so
+
+
 def run(words, seconds, given=None, **how):
     """How a command ended, and what it wrote to standard output and error.
 

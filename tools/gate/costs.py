@@ -31,7 +31,6 @@ def rules(n):
 
 
 def txt(n):
-    """A cookies.txt of n rows."""
     return "".join(f"h{i // 5}.example.com\tFALSE\t{PATHS[i % 5]}\tTRUE\t4102444800\tname{i}\tvalue\n"
                    for i in range(n))
 
@@ -41,7 +40,6 @@ def at(host):
 
 
 def filled(word, n, to_host=5):
-    """So many cookies by a call, so many to a host."""
     text = "\n".join(f"name{i}=value; Path={PATHS[i % 5]}; Max-Age=2592000" for i in range(to_host))
     return [step for host in range(-(-n // to_host)) for step in (at(host), does(word, text))]
 
@@ -56,13 +54,11 @@ def loaded(form, steps):
 
 
 def client(*texts, url=URL, rules=False):
-    """A client that got these lines, in the end at its URL."""
     behind = [does("put_behind_rules")] if rules else []
     return [does("begin_client", LIST), *behind, does("visit", url), *(does("receive", it) for it in texts)]
 
 
 def beside(n, rules=False):
-    """A client beside n rows of other hosts."""
     return [*client(rules=rules), *filled("receive", n), does("visit", URL)]
 
 
@@ -83,7 +79,6 @@ def read(make, read, value=VALUE, *before):
 
 
 def session(n):
-    """A session that set n values."""
     return [does("open_session"), *(does("set_plain", f"name{i}", "value") for i in range(n))]
 
 

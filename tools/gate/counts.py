@@ -1,6 +1,13 @@
 """What a script's checks came to: it tells of each, and ends with the line 'N passed, M failed'."""
 
 
+def differs(what, wanted, found):
+    """How what is found differs from what is wanted, a line each."""
+    if wanted != found:
+        yield f"{what}: wanted {wanted!r:.2000}"
+        yield f"{' ' * len(what)}   found {found!r:.2000}"
+
+
 class Counts:
     """How many passed, how many failed, and how many were skipped. The last line names `what` they are, as 'cases', and
     `how` they passed."""

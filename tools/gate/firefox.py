@@ -20,8 +20,7 @@ EXAMPLE = [("shop.com", "/", "id", "a3", FAR, 0, 0, ""), (".shop.com", "/", "__S
 
 
 def put(path, rows, version=16, page=32768, log=True, table=TABLE):
-    """Makes a file at a path where none is, of rows of COLUMNS; with a log, all but the first page's start stands in
-    FILE-wal alone."""
+    """Makes a file of rows of COLUMNS where none is; with a log, all but a first page stands in FILE-wal alone."""
     with tempfile.TemporaryDirectory() as room, contextlib.closing(
             sqlite3.connect(f"{room}/a", isolation_level=None)) as base:
         base.execute(f"PRAGMA page_size={page}")

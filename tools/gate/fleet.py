@@ -8,10 +8,11 @@ import json
 import os
 import random
 import re
-import socketserver
 import struct
 import time
 from collections import defaultdict
+
+from .site import Handler
 
 LIST, NOW = "test\nco.test\n", 1700000000
 PATHS = ("/", "/p", "/p/q")
@@ -62,34 +63,18 @@ class Exchange:
 
 # ---- the site
 
-class Site(socketserver.StreamRequestHandler):
-    """Answers each request of a connection with the lines of its exchange, by 400 where a cookie isn't its own."""
+class Site(Handler):
+    """Answers each request with the lines of its exchange, by 400 where a cookie isn't its own. Its server knows how
+    many `hosts` there are."""
 
-    def handle(self):
-        while fields := dict(line.split(b": ", 1) for line in self.head()):
-            exchange = Exchange(int(fields[b"X-Exchange"]), self.server.hosts)
-            is_wrong = exchange.wrong(fields.get(b"Cookie", b"").decode()) or fields[b"Host"].decode() != exchange.host
-            lines = "".join(f"Set-Cookie: {it}\r\n" for it in exchange.lines)
-            status = "400 Bad Request" if is_wrong else "200 OK"
-            self.wfile.write(f"HTTP/1.1 {status}\r\n{lines}Content-Length: 0\r\n\r\n".encode())
-
-    def head(self):
-        """The fields of a request's head; none at the end."""
-        lines = list(iter(lambda: self.rfile.readline().rstrip(b"\r\n"), b""))
-        return lines[1:]
-
-
-class Server(socketserver.ThreadingTCPServer):
-    """The server of a site with so many hosts, on a free port of loopback."""
-
-    daemon_threads, request_queue_size = True, 64
-
-    def __init__(self, hosts):
-        super().__init__(("127.0.0.1", 0), Site)
-        self.hosts = hosts
-
-    def handle_error(self, *_):
-        """Says nothing of a worker that was killed."""
+    def do_GET(self):
+        exchange = Exchange(int(self.headers["X-Exchange"]), self.server.hosts)
+        is_wrong = exchange.wrong(self.headers.get("Cookie", "")) or self.headers["Host"] != exchange.host
+        self.send_response(400 if is_wrong else 200)
+        for it in exchange.lines:
+            self.send_header("Set-Cookie", it)
+        self.send_header("Content-Length", "0")
+        self.end_headers()
 
 
 # ---- workers
@@ -105,16 +90,17 @@ def work(mine, hosts, ports, log, plant):
     class Noted(fleet.RedisStore):
         """A store that keeps the version of what was got last, and numbers what it puts."""
 
-        number, tries, got, made = 0, 0, b"", b""
+        number, tries, got = 0, 0, b""
 
         def get(self, key):
             text, self.got = super().get(key)
+            # (so that others come between reading a shard and putting it)
+            time.sleep(0.002 if plant else 0)
             return text, self.got
 
         def fresh(self):
             self.tries += 1
-            self.made = struct.pack(">QQ", self.number, os.getpid() << 32 | self.tries)
-            return self.made
+            return struct.pack(">QQ", self.number, os.getpid() << 32 | self.tries)
 
     store = Noted(redis.Redis(port=ports[0], socket_timeout=60, retry=Retry(NoBackoff(), 0)))
     shared, site = fleet.Fleet(LIST, store), http.client.HTTPConnection("127.0.0.1", ports[1])
@@ -154,87 +140,15 @@ def work(mine, hosts, ports, log, plant):
 
 # ---- planted faults
 
-def slow(store):
-    """Has others come between reading a shard and putting it."""
-    get = store.get
-
-    def read(key):
-        got = get(key)
-        time.sleep(0.002)
-        return got
-    store.get = read
-
-
 def blind(module, store):
     """A store that puts without a look at the version."""
-    slow(store)
     store.PUT = "redis.call('SET', KEYS[1], ARGV[2]) return 1"
 
 
 def hasty(module, store):
     """A fleet that takes what wasn't put for put."""
-    slow(store)
     is_put = module.Fleet._is_put
     module.Fleet._is_put = lambda *words: is_put(*words) or True
-
-
-def forgetful(module, store):
-    """A fleet that saves what a client's file has: no cookie without an expiry."""
-    module._text = lambda client: client.save(NOW)
-
-
-def dropping(module, store):
-    """A fleet that drops what is expired at a moment, so that a cookie set anew loses its place."""
-    text = module._text
-
-    def kept(client):
-        from fonnalich import Client
-        with Client(LIST, text(client), NOW + 10) as loaded:
-            return text(loaded)
-    module._text = kept
-
-
-def stale(module, store):
-    """A fleet whose headers are of what it read of a key at first."""
-    first, get, header = {}, store.get, module.Fleet.header
-
-    def read(self, *words):
-        store.get = lambda key: first.setdefault(key, get(key))
-        try:
-            return header(self, *words)
-        finally:
-            store.get = get
-    module.Fleet.header = read
-
-
-def caching(module, store):
-    """A fleet whose headers are of what it put of a key last itself, or read at first."""
-    kept, get, put_if, header = {}, store.get, store.put_if, module.Fleet.header
-
-    def cached(key):
-        kept[key] = kept[key] if key in kept else get(key)
-        store.got = kept[key][1]
-        return kept[key]
-
-    def read(self, *words):
-        store.get = cached
-        try:
-            return header(self, *words)
-        finally:
-            store.get = get
-
-    def put(key, version, text):
-        is_put = put_if(key, version, text)
-        if is_put:
-            kept[key] = text, store.made
-        return is_put
-    store.put_if, module.Fleet.header = put, read
-
-
-def idle(module, store):
-    """A fleet that puts nothing, and tells of nothing."""
-    import redis
-    module.Fleet.receive = lambda *_: (_ for _ in ()).throw(redis.ConnectionError)
 
 
 def bare(module, store):
@@ -243,7 +157,7 @@ def bare(module, store):
     module._text = lambda client: text(client).replace(b"; HttpOnly", b"")
 
 
-PLANTS = {it.__name__: it for it in (blind, hasty, forgetful, dropping, stale, caching, idle, bare)}
+PLANTS = {it.__name__: it for it in (blind, hasty, bare)}
 
 
 # ---- the one client
@@ -269,7 +183,6 @@ class Judge:
         self.replay()
 
     def follow(self, notes):
-        """Keeps a worker's notes."""
         for note in notes:
             number = note["number"]
             site, place = Exchange(number, self.hosts).site, self.place_of.get(number, -1)
@@ -285,8 +198,7 @@ class Judge:
             self.moments.append((note["times"][1], 1, site, place, number))
 
     def look_back(self):
-        """Looks whether each header is of what was put or read before it was asked for, by any worker, or came later.
-        All workers have one clock."""
+        """Looks whether each header is of what was put or read before it was asked for. All workers have one clock."""
         last = {}
         for _, has_ended, site, place, number in sorted(self.moments):
             if has_ended:
@@ -341,10 +253,11 @@ class Judge:
                 self.wrong.append(f"{number} had {header!r}, one client {alone!r}")
 
 
+def stamp_of(version):
+    """The number of the exchange that put this, and how often it was tried until then."""
+    number, tries = struct.unpack(">QQ", version)
+    return number, tries & 0xFFFFFFFF
+
+
 def number_of(version):
-    return struct.unpack(">QQ", version)[0]
-
-
-def tries_of(version):
-    """How often an exchange was tried until it put this."""
-    return struct.unpack(">QQ", version)[1] & 0xFFFFFFFF
+    return stamp_of(version)[0]

@@ -2,18 +2,15 @@
 
 Other visits are to a site that sends what is no answer, and while Redis is away: neither may end a worker.
 """
-import http.server
-import os
 import re
 import subprocess
 import sys
 import tempfile
-import threading
 import time
 from urllib.parse import urlsplit
 
 from . import bounded, pages, servers, site
-from .kit import TOP
+from .kit import TOP, written
 from .peers import environment
 
 # Of a worker on a calm machine, and how long Redis is away, in seconds.
@@ -35,9 +32,8 @@ MANGLED = {
 }
 
 
-class Shop(http.server.BaseHTTPRequestHandler):
-    """A proxy, behind which shop.test sets a cookie at /login and asks for it elsewhere; other hosts ask for none. At
-    `?away` Redis goes away."""
+class Shop(site.Handler):
+    """A proxy, where shop.test sets a cookie at /login and asks for it elsewhere. At `?away` Redis goes away."""
 
     def do_GET(self):
         url, had = urlsplit(self.path), self.headers.get("Cookie")
@@ -56,17 +52,11 @@ class Shop(http.server.BaseHTTPRequestHandler):
         self.end_headers()
         self.wfile.write(b"ok")
 
-    def log_message(self, *_):
-        pass
-
 
 def wrong():
-    """What is wrong with the visits, in words."""
-    with tempfile.TemporaryDirectory(prefix="example-") as room, site.Quiet(("127.0.0.1", 0), Shop) as shop:
-        threading.Thread(target=shop.serve_forever, daemon=True).start()
-        server = servers.Redis(room)
-        with open(f"{room}/list", "wb") as file:
-            file.write(LIST)
+    with tempfile.TemporaryDirectory(prefix="example-") as room:
+        server, shop = servers.Redis(room), site.begun(Shop)
+        written(f"{room}/list", LIST)
         server.start()
         shop.redis = server
         env = {**environment(), "REDIS": f"redis://127.0.0.1:{server.port}", "LIST": f"{room}/list", "no_proxy": "",
@@ -80,12 +70,11 @@ def wrong():
 
 def visits(server, env):
     """What is wrong with visits before a log-in, the log-in, and visits of two workers behind it."""
-    steps = [(1, ["http://shop.test/a"], ["http://shop.test/a 403"]),
-             (1, ["http://shop.test/login"], ["http://shop.test/login 200 2"]),
-             (2, *both(*(f"http://{host}/{i}" for i in PATHS for host in ("shop.test", "www.shop.test", "b.test"))))]
-    for workers, urls, wanted in steps:
+    shared = [f"http://{host}/{i}" for i in PATHS for host in ("shop.test", "www.shop.test", "b.test")]
+    for workers, urls, status in ((1, ["http://shop.test/a"], "403"), (1, ["http://shop.test/login"], "200 2"),
+                                  (2, shared, "200 2")):
         said = visited(server, workers, urls, env)
-        if sorted(said) != sorted(wanted):
+        if sorted(said) != sorted(f"{url} {status}" for url in urls):
             return [f"of {urls} was said {said}"]
     block = pages.filled("# README: README.md python 2\n")
     said = bounded.run([sys.executable, "-B", "-c", block], SECONDS, env=env)
@@ -109,7 +98,7 @@ def visits_without_redis(server, env):
     """What is wrong with a worker from which Redis goes away in a visit, and for a while."""
     put(server, ["http://b.test/login?away", "http://b.test/1"])
     worker = begun_worker(env)
-    servers.is_awaited(lambda: server.process.poll() is not None or worker.poll() is not None)
+    bounded.is_awaited(lambda: server.process.poll() is not None or worker.poll() is not None, SECONDS)
     server.kill()
     time.sleep(AWAY)
     server.start()
@@ -118,12 +107,7 @@ def visits_without_redis(server, env):
     return [] if is_right else [f"a worker without Redis said {said}"]
 
 
-def both(*urls):
-    return [*urls], [f"{url} 200 2" for url in urls]
-
-
 def visited(server, workers, urls, env):
-    """The lines of workers that visit these URLs together."""
     put(server, urls)
     return said_by([begun_worker(env) for _ in range(workers)])
 
@@ -136,7 +120,6 @@ def put(server, urls):
 
 
 def begun_worker(env):
-    """The process of a worker."""
     words = [sys.executable, "-B", f"{TOP}/examples/fleet/worker.py"]
     return subprocess.Popen(words, env=env, stdout=subprocess.PIPE, text=True)
 

@@ -11,6 +11,8 @@ import time
 
 from . import fleet, servers
 from .bounded import patience
+from .kit import read
+from .site import Quiet
 
 WORKERS = 8
 # Of a play of a thousand exchanges, in seconds on a calm machine.
@@ -30,8 +32,8 @@ class Play:
         self.redis, self.pids, self.logs = servers.Redis(room), {}, []
         self.killed, self.restarts, self.failed = 0, 0, []
         self.bound = mmap.mmap(-1, 8)
-        server = fleet.Server(hosts)
-        self.port = server.server_address[1]
+        server = Quiet(("127.0.0.1", 0), fleet.Site)
+        server.hosts, self.port = hosts, server.server_port
         self.site = forked(server.serve_forever)
         server.socket.close()
         self.redis.start()
@@ -53,7 +55,6 @@ class Play:
             yield number
 
     def hold(self, events):
-        """Tells the workers how far they may go."""
         self.bound[:] = (events[0][0] + AHEAD if events else self.exchanges).to_bytes(8, "big")
 
     def drawn_events(self):
@@ -62,8 +63,7 @@ class Play:
         return sorted((self.draw.randrange(self.exchanges * 3 // 4), it) for it in each)
 
     def run(self, events):
-        """Has all workers make their exchanges. `events` are the counts of exchanges at which something ends: a worker,
-        or Redis."""
+        """Has all workers make their exchanges. At the counts of `events` a worker ends, or Redis."""
         self.hold(events)
         for number in range(WORKERS):
             self.begin(range(number, self.exchanges, WORKERS))
@@ -78,17 +78,13 @@ class Play:
                 self.hold(events)
 
     def reap(self):
-        """Looks which workers have ended."""
+        """Looks which workers have ended, and keeps how one did that didn't end well."""
         for pid in [*self.pids]:
             ended, status = os.waitpid(pid, os.WNOHANG)
             if ended:
                 del self.pids[pid]
-                self.look(status)
-
-    def look(self, status):
-        """Keeps how a worker ended by itself, if it didn't end well."""
-        if status:
-            self.failed.append(f"a worker ended by {os.waitstatus_to_exitcode(status)}")
+            if status:
+                self.failed.append(f"a worker ended by {os.waitstatus_to_exitcode(status)}")
 
     def progress(self):
         """How many exchanges were begun, of those workers that are there, as far as the slowest."""
@@ -103,9 +99,9 @@ class Play:
         pid = self.draw.choice([*self.pids])
         mine, path = self.pids.pop(pid)
         os.kill(pid, signal.SIGKILL)
-        status = os.waitpid(pid, 0)[1]
-        if status != signal.SIGKILL:
-            self.look(status)
+        status = os.waitstatus_to_exitcode(os.waitpid(pid, 0)[1])
+        if status != -signal.SIGKILL:
+            self.failed += [f"a worker ended by {status}"] if status else []
             return
         self.killed += 1
         self.begin(range(max(last_of(path) + WORKERS, mine.start), mine.stop, WORKERS))
@@ -119,9 +115,9 @@ class Play:
             order.append((key, value[:16]))
             texts[key] = value[16:]
         lost = self.killed + WORKERS * self.restarts
-        notes = [notes_of(it) for it in self.logs]
+        notes = [[json.loads(line) for line in read(it).splitlines(True) if line.endswith(b"\n")] for it in self.logs]
         wrong = fleet.Judge(order, texts, notes, self.exchanges, self.hosts, lost).wrong
-        return wrong, sum(fleet.tries_of(it) - 1 for _, it in order), len(order)
+        return wrong, sum(fleet.stamp_of(it)[1] - 1 for _, it in order), len(order)
 
     def end(self):
         for pid in [*self.pids, self.site]:
@@ -143,12 +139,6 @@ def forked(call):
         sys.excepthook(*sys.exc_info())
     finally:
         os._exit(status)
-
-
-def notes_of(path):
-    """What a worker wrote down."""
-    with open(path, "rb") as log:
-        return [json.loads(line) for line in log if line.endswith(b"\n")]
 
 
 def last_of(path):

@@ -3,10 +3,7 @@
 Its module in LLVM's text is kept in out/measured by the sum of what it is made of. `bindings/build`, `tools/budget` and
 `tools/no-secret-time` make archives of parts of it.
 """
-import glob
 import hashlib
-import importlib.machinery
-import importlib.util
 import json
 import os
 import re
@@ -16,28 +13,27 @@ import sys
 import tempfile
 
 from gate import compiler, program
-from gate.kit import TOP, load_rt, place
-from gate.sources import sum_of_files, walked
+from gate.kit import TOP, load_rt, load_script, place, say, text_of, version_of_rt, written
+from gate.sources import needs_of, sum_of_files, walked
 
 HERE, CRATE, KEPT = f"{TOP}/tools/measured", "measured", f"{TOP}/out/measured/module.ll"
 X86, ARM = "x86_64-unknown-linux-gnu", "aarch64-unknown-linux-gnu"
 # The folders of a crate that a compile reads.
 PARTS = ("src", "specs")
-# How long a compile takes on a calm machine.
 SECONDS = 90
 # What code with no proof has: a fill of each local, and functions that check what a proof would show.
 FILL = re.compile(r"^  call void @llvm\.memset\.p0\.i64\(ptr %\w+, i8 -86, i64 \d+, i1 false\)\n", re.M)
 CHECK = re.compile(r'^(define internal void @"rattle-(?:llvm-checks|try)::[\w-]+"\([^)]*\) )#\d+ \{\n.*?^\}\n',
                    re.M | re.S)
-# An export; a call of tools/measured/calls.txt, and what it is in Rattle; and a function that makes calls at their
-# largest.
+# An export; a call of tools/measured/calls.txt, and one of largest.txt, and what each is in Rattle.
 EXPORT = re.compile(r'^pub (?:unsafe )?extern "C" fn (\w+)\((.*?)\)', re.M | re.S)
 CALL = re.compile(r"^call (\w+)\(kept(?:, )?(.*?)\):(.*\n(?:    .*\n)*)", re.M)
 DONE = """pub fn {name}(kept: &mut Kept, first: &[u8], second: &[u8]) -> Option<()> {{
     {texts}{body}
 }}
 """
-LARGEST = re.compile(r"^pub fn (\w+)\(alloc: Global\) -> Result<\(\), Wrong>", re.M)
+LARGE = re.compile(r"^large (\w+):\n((?:    .*\n)*)", re.M)
+LARGEST = r"pub fn \1(alloc: Global) -> Result<(), Wrong> {\n\2    Ok(())\n}\n"
 # The toolchain compiles no library without a proof, but a program. So its `main` calls each export, and of what is
 # handed to the compiler the exports get the names that C calls.
 MAIN = """
@@ -93,33 +89,16 @@ SHUFFLED = {X86: r"""  \g<shuffled>.table = load <16 x i8>, ptr \g<table>, align
 """}
 DECLARED = {X86: "declare <16 x i8> @llvm.x86.ssse3.pshuf.b.128(<16 x i8>, <16 x i8>)\n",
             ARM: "declare <16 x i8> @llvm.aarch64.neon.tbl1.v16i8(<16 x i8>, <16 x i8>)\n"}
+# What callgrind writes down of a dump: its label, and how many instructions there were.
+TRIGGER = re.compile(r"^desc: Trigger: Client Request: (.*)$", re.M)
+TOTAL = re.compile(r"^(?:summary|totals): (\d+)$", re.M)
 # A function or a global of a module, and a name.
 PART = re.compile(r"^define .*?^\}\n|^@[^\n]*\n", re.M | re.S)
 NAME = re.compile(r'@("[^"]*"|[\w.$-]+)')
 
 
-def load_script(path, name):
-    """A script as a module."""
-    loader = importlib.machinery.SourceFileLoader(name, path)
-    made = sys.modules[name] = importlib.util.module_from_spec(importlib.util.spec_from_loader(name, loader))
-    loader.exec_module(made)
-    return made
-
-
 def load_build(top):
     return load_script(f"{top}/bindings/build", "build")
-
-
-def read(*path):
-    with open(os.path.join(*path), encoding="utf-8") as file:
-        return file.read()
-
-
-def written(path, text):
-    os.makedirs(os.path.dirname(path), exist_ok=True)
-    with open(path, "w", encoding="utf-8") as to:
-        to.write(text)
-    return path
 
 
 def ended(words, **how):
@@ -131,17 +110,19 @@ def ended(words, **how):
     return ran.stdout
 
 
+def counted(words, folder, **how):
+    """What a program writes under callgrind, and what that writes down of it, by the labels of its dumps."""
+    os.makedirs(folder)
+    wrote = ended(["valgrind", "--quiet", "--tool=callgrind", f"--callgrind-out-file={folder}/of", *words], **how)
+    texts = [text_of(f"{folder}/{it}") for it in os.listdir(folder)]
+    return wrote, {found[1]: text for text in texts if (found := TRIGGER.search(text))}
+
+
 # ---- the sources
-
-def needs_of(text):
-    """What each line of a crates.txt says that a crate stands on."""
-    lines = [it.split("#")[0].partition(":") for it in text.splitlines()]
-    return {head.split()[0]: needs.split() for head, colon, needs in lines if colon}
-
 
 def needed(top, line):
     """The lines of a tree's crates.txt that this one stands on, and this one."""
-    needs, lines, left = needs_of(read(top, "crates.txt")), {}, [*needs_of(line).values()][0]
+    needs, lines, left = needs_of(text_of(f"{top}/crates.txt")), {}, [*needs_of(line).values()][0]
     while left:
         name, left = left[0], left[1:]
         if name in needs and name not in lines:
@@ -164,12 +145,9 @@ def put_tree(top, room, line, sources, passed_over=("must-fail", "out", "proofs"
 
 def calls(top=TOP):
     """The functions of tools/measured by their names, and how each is called in Rattle."""
-    found = {it[1]: f"calls::{it[1]}(kept, first, second).is_some()"
-             for it in CALL.finditer(read(top, "tools/measured/calls.txt"))}
-    for path in sorted(glob.glob(f"{top}/tools/measured/*.rt.txt")):
-        module = os.path.basename(path)[:-len(".rt.txt")]
-        found |= {it: f"{module}::{it}(kept.alloc).is_ok()" for it in LARGEST.findall(read(path))}
-    return found
+    texts = [text_of(f"{top}/tools/measured/{it}.txt") for it in ("calls", "largest")]
+    return {**{it[1]: f"calls::{it[1]}(kept, first, second).is_some()" for it in CALL.finditer(texts[0])},
+            **{it[1]: f"largest::{it[1]}(kept.alloc).is_ok()" for it in LARGE.finditer(texts[1])}}
 
 
 def done(call):
@@ -181,19 +159,19 @@ def done(call):
 
 
 def value(type_):
-    """A value of an export's argument."""
     array = re.fullmatch(r"(&(?:mut )?)\[u8; (\d+)\]", type_)
     return f"{array[1]}[0; {array[2]}]" if array else VALUES.get(type_, "0")
 
 
 def sources(top):
     """The sources of tools/measured as a program's."""
-    texts = {os.path.basename(it)[:-len(".txt")]: read(it) for it in glob.glob(f"{top}/tools/measured/*.rt.txt")}
-    texts["calls.rt"] = CALL.sub(done, read(top, "tools/measured/calls.txt"))
-    main = texts.pop("lib.rt") + "".join(WRAPPER.format(name=name, done=it) for name, it in calls(top).items())
+    at = f"{top}/tools/measured"
+    texts = {"secrets.rt": text_of(f"{at}/secrets.rt.txt"), "calls.rt": CALL.sub(done, text_of(f"{at}/calls.txt")),
+             "largest.rt": LARGE.sub(LARGEST, text_of(f"{at}/largest.txt"))}
+    main = text_of(f"{at}/lib.rt.txt") + "".join(WRAPPER.format(name=name, done=it) for name, it in calls(top).items())
     lines = []
     for path, text in (("", main), ("secrets::", texts["secrets.rt"]),
-                       ("fonnalich_c::", read(top, "crates/fonnalich_c/src/lib.rt"))):
+                       ("fonnalich_c::", text_of(f"{top}/crates/fonnalich_c/src/lib.rt"))):
         for name, words in EXPORT.findall(text):
             types = [it.partition(":")[2].strip() for it in words.split(",") if it.strip()]
             lines.append(f"        {path}{name}({', '.join(map(value, types))});\n")
@@ -204,38 +182,33 @@ def sources(top):
 
 def made_of(top):
     """What tells the module of a tree from another's."""
-    parts = [f"crates/{it}/{part}" for it in needed(top, read(top, "tools/measured/crate.txt")) for part in PARTS]
+    parts = [f"crates/{it}/{part}" for it in needed(top, text_of(f"{top}/tools/measured/crate.txt")) for part in PARTS]
     crates = sum_of_files(top, walked(top, "crates.txt", *parts))
     calls = hashlib.sha256(json.dumps(sources(top), sort_keys=True).encode()).hexdigest()
-    return f"toolchain={ended(['rt', 'version']).strip()}\nsources={crates} {calls}\n"
+    return f"toolchain={version_of_rt()}\nsources={crates} {calls}\n"
 
 
 def module():
-    """The module of the tree in LLVM's text, which is compiled where none of these sources is kept. Where another
-    process compiles it, this one waits."""
+    """The module of the tree in LLVM's text, compiled where none of these sources is kept, by one process at a time."""
     made = made_of(TOP)
     with compiler.alone(f"{KEPT}.lock"):
         if program.noted(KEPT) != made:
-            who = os.path.relpath(os.path.realpath(sys.argv[0]), TOP)
             # (who reads the line may interrupt at once, and a folder that is being made would stay)
             with tempfile.TemporaryDirectory(prefix="measured-") as room:
-                told = f"{who}: compiling the library, with no proof: some {SECONDS} seconds"
-                print(told, file=sys.stderr, flush=True)
+                say(f"compiling the library, with no proof: some {SECONDS} seconds")
                 shutil.copyfile(compiled(TOP, room), f"{KEPT}.new")
             os.replace(f"{KEPT}.new", KEPT)
             program.put_note(KEPT, made)
-        return read(KEPT)
+        return text_of(KEPT)
 
 
-def compiled(top, room, plant=None):
-    """Compiles the module of a tree's sources, of which a planted edit may change some, and returns its path."""
-    put_tree(top, f"{room}/tree", read(top, "tools/measured/crate.txt"), sources(top))
+def compiled(top, room):
+    """Compiles the module of a tree's sources, and returns its path."""
+    put_tree(top, f"{room}/tree", text_of(f"{top}/tools/measured/crate.txt"), sources(top))
     # (`main` names it)
     of_c = f"{room}/tree/crates/fonnalich_c/src/lib.rt"
     line = "use crate::attributes::Attributes;\n"
-    written(of_c, read(of_c).replace(line, f"pub {line}"))
-    if plant:
-        plant(f"{room}/tree")
+    written(of_c, text_of(of_c).replace(line, f"pub {line}"))
     crate = next(it for it in load_rt().rtlib.crates_below(f"{room}/tree") if it.name == CRATE)
     with open(f"{room}/log", "w+", encoding="utf-8", errors="replace") as log:
         compiler.compiled(crate, room, KEEPER.replace("KEPT", f"{room}/module.bc"), log)
@@ -283,7 +256,7 @@ def for_target(text, target, room):
     alike, and pass arguments so; a bool is handed over there without zeros before it."""
     words = [place("clang"), "--no-default-config", f"--target={target}", "-S", "-emit-llvm", "-x", "c", "/dev/null"]
     ended([*words, "-o", f"{room}/empty.ll"])
-    lines = re.findall(r"^target .*\n", read(f"{room}/empty.ll"), re.M)
+    lines = re.findall(r"^target .*\n", text_of(f"{room}/empty.ll"), re.M)
     text = re.sub(r"^target .*\n", "", text, flags=re.M).replace(' "target-cpu"="x86-64-v2"', "")
     return "".join(lines) + text.replace("i1 noundef zeroext", "i1 noundef")
 
@@ -300,5 +273,4 @@ def archive(text, room, exports, level="-O2", changed=lambda text: text, target=
 
 
 def exports_of(path):
-    """The names of the exports of a source."""
-    return [name for name, _ in EXPORT.findall(read(TOP, path))]
+    return [name for name, _ in EXPORT.findall(text_of(f"{TOP}/{path}"))]

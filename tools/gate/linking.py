@@ -7,13 +7,9 @@ import subprocess
 import sys
 import tempfile
 
-sys.dont_write_bytecode = True
-sys.path.insert(0, os.path.dirname(os.path.dirname(os.path.abspath(__file__))))
+from . import library, program as programs
+from .kit import CC, TOP, place, read, written
 
-from gate import library, program as programs
-from gate.kit import CC, place
-
-TOP = programs.TOP
 # The number in the shared library's name, which changes with what it exports.
 SONAME = "libfonnalich.so.0"
 # A compiler for aarch64, which links the programs for it with its C library.
@@ -26,17 +22,6 @@ PACKAGING = f"{TOP}/tools/packaging"
 # What stands for the toolchain's functions in C in a program for aarch64.
 FOR_ARM = (f"{TOP}/bindings/c/heap.c", f"{PACKAGING}/os.c")
 PLAIN = ("--build-id=none", "-z", "now", "-z", "relro", "--gc-sections", "-s")
-
-
-def written(path, text):
-    with open(path, "w", encoding="utf-8") as to:
-        to.write(text)
-    return path
-
-
-def read(path):
-    with open(path, "rb") as file:
-        return file.read()
 
 
 def run(*words):
@@ -56,8 +41,7 @@ def shared(processor, archive):
 
 
 def stubs(room, linker, processor):
-    """What stands for the libraries of C and of the compiler at a link: a library of the names that are taken of the
-    one, and the division of the other."""
+    """What stands at a link for the C library, by the names that are taken of it, and for the compiler's division."""
     build, target = library.load_build(TOP), f"{processor}-unknown-linux-gnu"
     names = written(f"{room}/names.c", "".join(f"void {it}(void) {{}}\n" for it in TAKEN))
     words = ["-shared", "-soname", "libc.so.6", f"--version-script={written(f'{room}/least', LEAST[processor])}"]
@@ -81,7 +65,8 @@ def program(processor, command):
     if not programs.is_built_for(command, processor):
         raise Unlinked(f"there is no object of it for {processor} of these sources by this toolchain")
     try:
-        return static(words, objects_for_arm(command) if is_arm else objects_of(command))
+        beside = FOR_ARM if is_arm else (place("os"), place("libc"))
+        return static(words, [programs.built_for(command, processor), *beside])
     except subprocess.CalledProcessError:
         sys.exit(f"package: '{shlex.join(words)}' doesn't link {command}, as stands above")
 
@@ -119,13 +104,3 @@ def static(words, parts):
         objects = [in_c(it) if it.endswith(".c") else it for it in parts]
         run(*words, *objects, *flags, "-o", f"{room}/made")
         return read(f"{room}/made")
-
-
-def objects_of(command):
-    """What a program is linked of, as the toolchain left it."""
-    return [programs.built_for(command, "x86_64"), place("os"), place("libc")]
-
-
-def objects_for_arm(command):
-    """The same for aarch64, with the functions in C that the toolchain has for x86-64 alone."""
-    return [programs.built_for(command, "aarch64"), *FOR_ARM]

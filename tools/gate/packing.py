@@ -83,8 +83,7 @@ def gzipped(data):
 
 
 def page(text):
-    """The page of bindings/ as packages have it: with a beginning of theirs, and without links to files that they lack.
-    """
+    """The page of bindings/ as packages have it: with its own beginning, and no links to files that they lack."""
     _, heading, below = text.partition("## Packages\n")
     if not heading:
         raise ValueError("the page has no '## Packages'")

@@ -5,7 +5,6 @@ counts the page's blocks of that language. A file that is compiled as it stands 
 `README: PAGE` and `README: end`.
 """
 import glob
-import os
 import re
 import sys
 from dataclasses import dataclass, field

@@ -1,17 +1,16 @@
 """What the scripts need that run the library in other programs: the library, a Python with a framework, and commands.
 """
-import fcntl
 import os
 import shutil
 import socket
 import subprocess
 import sys
 
-from .bounded import patience
+from .bounded import patience, run
+from .compiler import alone
 from .kit import TOP
 
 OUT = f"{TOP}/out"
-# Seconds that a module may take to be imported, on a calm machine.
 SECONDS = 60
 
 
@@ -37,12 +36,17 @@ def missing(modules, commands):
 
 
 def held_port():
-    """A socket that keeps its port of loopback from all that ask for any port, as long as it is open. A server that
-    asks for this one, by the option SO_REUSEADDR, listens there."""
+    """A socket that keeps its port of loopback, while it is open, for a server that asks for it by SO_REUSEADDR."""
     held = socket.socket()
     held.setsockopt(socket.SOL_SOCKET, socket.SO_REUSEADDR, 1)
     held.bind(("127.0.0.1", 0))
     return held
+
+
+def tested(words, seconds, folder):
+    """How a command ended that uses the library in a folder, and what it wrote."""
+    status, out, err = run(words, seconds, cwd=folder, env=environment())
+    return status, (out + err).decode(errors="replace")
 
 
 def environment():
@@ -53,8 +57,6 @@ def environment():
 
 def put_library():
     """Has the library compiled, with no proof, where it isn't there; once where several ask for it."""
-    os.makedirs(OUT, exist_ok=True)
-    with open(f"{OUT}/library.lock", "w", encoding="utf-8") as lock:
-        fcntl.flock(lock, fcntl.LOCK_EX)
+    with alone(f"{OUT}/library.lock"):
         if not all(os.path.exists(f"{OUT}/{it}") for it in ("libfonnalich.a", "libfonnalich.so", "fonnalich.h")):
             subprocess.run([f"{TOP}/bindings/build"], stdout=subprocess.DEVNULL, check=True)

@@ -9,18 +9,14 @@ import sys
 import tempfile
 import time
 
-sys.dont_write_bytecode = True
-sys.path.insert(0, os.path.dirname(os.path.dirname(os.path.abspath(__file__))))
+from . import compiler
+from .kit import CC, TOP, demand, guarded, load_rt, place, read, text_of, version_of_rt, written
+from .progress import Progress
+from .sources import needs_of, sum_of_files, walked
 
-from gate import compiler
-from gate.kit import CC, demand, guarded, load_rt, place
-from gate.progress import Progress
-from gate.sources import sum_of_files, walked
-
-TOP = os.path.dirname(os.path.dirname(os.path.dirname(os.path.abspath(__file__))))
 # Their names in the shell.
 NAMES = ("cookie-run", "cookie-jar")
-COMPILED = f"{TOP}/out/compiled"
+COMPILED, LOG = f"{TOP}/out/compiled", f"{TOP}/out/{{}}.log"
 # The folders of a crate that a build reads.
 PARTS = ("src", "specs", "proofs")
 SUFFIXES = f"{TOP}/examples/suffixes.dat"
@@ -42,17 +38,14 @@ ld="${{0%clang}}ld.lld"
 
 
 def crate_of(command):
-    """The crate of a program, by the name that it has in the shell."""
     return f"{command.replace('-', '_')}_program"
 
 
 def commands_of(crates):
-    """The programs of these crates."""
     return [it for it in NAMES if crate_of(it) in crates]
 
 
 def built(command, top=TOP):
-    """Where the proved build of a program stands."""
     name = crate_of(command)
     return f"{top}/crates/{name}/out/{name}"
 
@@ -66,27 +59,18 @@ def given(path, command):
     return sys.exit(f"{os.path.basename(sys.argv[0])}: {found} is no program; `rt run` in crates/{name} builds it")
 
 
-def crates(command):
-    """The repository's crates that a program is made of, each after those that it stands on."""
-    return crates_to(crate_of(command))
-
-
 def crates_to(crate):
     """The repository's crates that one is made of, itself the last."""
-    uses = {}
-    with open(f"{TOP}/crates.txt", encoding="utf-8") as lines:
-        for line in lines:
-            name, _, below = line.partition("#")[0].partition(":")
-            # (a kind may stand behind the name)
-            uses[name.partition(" ")[0].strip()] = below.split()
+    uses, found = needs_of(text_of(f"{TOP}/crates.txt")), []
 
-    def below(name):
-        found = []
+    def add(name):
         for it in uses[name]:
-            found += [its for its in below(it) if its not in found] if it in uses else []
-        return [*found, name]
+            if it in uses and it not in found:
+                add(it)
+        found.append(name)
 
-    return below(crate)
+    add(crate)
+    return found
 
 
 def is_built(command):
@@ -107,36 +91,27 @@ def is_fresh(crate, path):
 def made_of(crate, *more, top=TOP):
     """What a build tells that it is made of and by: the toolchain, and one sum of the files of a crate of a tree, of
     those below it, and of `more`, whether git knows them or not."""
-    demand("rt")
-    ran = subprocess.run(["rt", "version"], stdout=subprocess.PIPE, text=True, check=True)
     parts = [f"crates/{name}/{part}" for name in crates_to(crate) for part in PARTS]
     names = walked(top, "crates.txt", "HANDLES", *parts, *more)
-    return f"toolchain={ran.stdout.strip()}\nsources={sum_of_files(top, names)}\n"
+    return f"toolchain={version_of_rt()}\nsources={sum_of_files(top, names)}\n"
 
 
 def put_note(path, made):
     """Tells beside a built file what it is made of, and its sum."""
-    with open(f"{path}.made", "w", encoding="utf-8") as to:
-        to.write(f"{made}sha256={digest_of(path)}\n")
+    written(f"{path}.made", f"{made}sha256={hashlib.sha256(read(path)).hexdigest()}\n")
 
 
 def noted(path):
     """What is told so of a file, or None where no note tells of its bytes."""
     if not os.path.isfile(f"{path}.made"):
         return None
-    with open(f"{path}.made", encoding="utf-8") as file:
-        made, _, its_sum = file.read().partition("sha256=")
-    return made if its_sum.strip() == digest_of(path) else None
-
-
-def digest_of(path):
-    with open(path, "rb") as file:
-        return hashlib.sha256(file.read()).hexdigest()
+    made, _, its_sum = text_of(f"{path}.made").partition("sha256=")
+    return made if its_sum.strip() == hashlib.sha256(read(path)).hexdigest() else None
 
 
 def compiled(command):
     """Where a program stands that is compiled of the sources as they are, by the toolchain that is here."""
-    parts = [f"crates/{name}/{part}" for name in crates(command) for part in ("src", "specs")]
+    parts = [f"crates/{name}/{part}" for name in crates_to(crate_of(command)) for part in ("src", "specs")]
     sums = sum_of_files(TOP, walked(TOP, "crates.txt", *parts)) + os.path.realpath(load_rt().rtlib.KIT)
     return f"{COMPILED}/{command}/{hashlib.sha256(sums.encode()).hexdigest()[:32]}/{command}"
 
@@ -147,11 +122,6 @@ def ready(command):
         return built(command)
     path = compiled(command)
     return path if os.access(path, os.X_OK) else None
-
-
-def log_of(name):
-    os.makedirs(f"{TOP}/out", exist_ok=True)
-    return f"{TOP}/out/{name}.log"
 
 
 def words_of(command, store):
@@ -170,8 +140,12 @@ def build(command):
     """Proves and builds the program anew over what its proof has kept, one crate after the other."""
     demand("rt", CC[0])
     made = made_of(crate_of(command))
-    clear(command)
-    progress, log, names, began = Progress(command), log_of("build"), crates(command), time.time()
+    # (so that none of it is taken for the next one's)
+    for ending in ("", ".o", ".o.made", ".stamp"):
+        with contextlib.suppress(FileNotFoundError):
+            os.remove(f"{built(command)}{ending}")
+    os.makedirs(f"{TOP}/out", exist_ok=True)
+    progress, log, names, began = Progress(command), LOG.format("build"), crates_to(crate_of(command)), time.time()
     with open(log, "wb") as to, tempfile.TemporaryDirectory() as room:
         for number, name in enumerate(names, 1):
             progress.show(f"proving and building {name}, crate {number} of {len(names)}")
@@ -189,15 +163,7 @@ def build(command):
     put_note(f"{built(command)}.o", made)
 
 
-def clear(command):
-    """Removes what a build made, so that none of it is taken for the next one's."""
-    for ending in ("", ".o", ".o.made", ".stamp"):
-        with contextlib.suppress(FileNotFoundError):
-            os.remove(f"{built(command)}{ending}")
-
-
 def built_for(command, processor):
-    """Where the object of a proved program for a processor stands."""
     return f"{built(command)}.o" if processor == "x86_64" else f"{TOP}/out/{processor}/{crate_of(command)}.o"
 
 
@@ -211,8 +177,7 @@ def is_built_for(command, processor):
 
 
 def build_for(command, processor):
-    """Proves and builds a program for a processor: for another than x86-64 its object alone, over what its own build
-    has kept."""
+    """Proves and builds a program for a processor: for another than x86-64 its object alone, over what is kept."""
     if processor == "x86_64":
         build(command)
         return
@@ -222,7 +187,7 @@ def build_for(command, processor):
     words = crate.words(["--jobs", "1", f"--target={processor}-unknown-linux-gnu", "--backend", "llvm"])
     words += ["--toolchain", place("toolchain"), "--incremental", "out/incremental"]
     os.makedirs(os.path.dirname(to), exist_ok=True)
-    with open(log_of("build"), "ab") as log:
+    with open(LOG.format("build"), "ab") as log:
         how = {"cwd": crate.folder, "stdin": subprocess.DEVNULL, "stdout": log, "stderr": log}
         status = subprocess.run([*guarded(rtlib), rtlib.RATTLE, "build", *words, "-o", to], **how).returncode
     if status:
@@ -236,7 +201,7 @@ def compile_sources(command, is_shown=True):
     """Compiles the program from its sources, with checks of each index, sum and access of memory and with no proof,
     and keeps it in the place of those of other sources. Returns its path."""
     demand("rt", CC[0])
-    path, log = compiled(command), log_of("compile")
+    path, log = compiled(command), LOG.format("compile")
     folder = f"{COMPILED}/{command}"
     with compiler.alone(f"{folder}/lock", lambda: say(command, "waiting for another compile")):
         if os.access(path, os.X_OK):
@@ -284,13 +249,10 @@ def put_compiled(command, room, path, log):
 
 
 def put_words(made, path):
-    """Puts a file where the program is made that runs it at the path where both will be, by the toolchain's C
-    library."""
+    """Puts a file where the program is made that runs it at its last path, by the toolchain's C library."""
     lib = place("lib")
     words = f'"{lib}/ld-linux-x86-64.so.2" --inhibit-cache --library-path "{lib}" "{path}.program" "$@"'
-    with open(made, "w", encoding="utf-8") as to:
-        to.write(f"#!/bin/sh\nexec {words}\n")
-    os.chmod(made, 0o755)
+    os.chmod(written(made, f"#!/bin/sh\nexec {words}\n"), 0o755)
 
 
 def say(command, text):

@@ -36,7 +36,6 @@ class Progress:
                 sys.stderr.flush()
 
     def end(self):
-        """Takes the line away."""
         with self.writing:
             if self.is_shown:
                 sys.stderr.write("\r\x1b[K")

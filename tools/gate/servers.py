@@ -7,24 +7,18 @@ import shutil
 import signal
 import socket
 import subprocess
-import time
 
-from .bounded import patience
+from .bounded import is_awaited, patience
 from .peers import held_port
 
-# Of a server's start, and of its end, in seconds on a calm machine.
 STARTING, ENDING = 20, 5
 DEBIANS = "/usr/lib/postgresql/*/bin"
 
 
-def is_awaited(is_there):
-    """Whether it is there in the time of a start."""
-    until = time.monotonic() + patience(STARTING)
-    while not is_there():
-        if time.monotonic() > until:
-            return False
-        time.sleep(0.02)
-    return True
+def await_answer(server):
+    if not is_awaited(server.answers, STARTING):
+        server.kill()
+        raise TimeoutError(f"{type(server).__name__} doesn't answer")
 
 
 class Redis:
@@ -39,9 +33,7 @@ class Redis:
 
     def start(self):
         self.process = subprocess.Popen(self.words, stdout=subprocess.DEVNULL)
-        if not is_awaited(self.answers):
-            self.kill()
-            raise TimeoutError("redis-server doesn't answer")
+        await_answer(self)
 
     def answers(self):
         """Whether it has read its file and answers."""
@@ -108,10 +100,10 @@ class Postgres:
         subprocess.run(words, check=True, **self.how)
         words = [self.program("postgres"), "-D", self.data, "-k", self.folder, "-c", "listen_addresses="]
         self.process = subprocess.Popen(words, **self.how)
-        if not is_awaited(lambda: subprocess.run([self.program("pg_isready"), "-h", self.folder, "-q"],
-                                                 check=False).returncode == 0):
-            self.kill()
-            raise TimeoutError("postgres doesn't answer")
+        await_answer(self)
+
+    def answers(self):
+        return subprocess.run([self.program("pg_isready"), "-h", self.folder, "-q"], check=False).returncode == 0
 
     def kill(self):
         """Has it end, with what its connections do, and kills it where it doesn't."""

@@ -1,4 +1,5 @@
 """Sites on loopback, by http and by https, and how curl finds them whatever the host and the port."""
+import contextlib
 import os
 import shutil
 import socket
@@ -8,7 +9,9 @@ import threading
 import time
 from collections import defaultdict
 from http.server import BaseHTTPRequestHandler, ThreadingHTTPServer
-from pathlib import Path
+from socketserver import BaseRequestHandler
+
+from .kit import read, written
 
 # What the site of an example sets.
 EXAMPLE = "sid=a3f; Path=/; Max-Age=3600"
@@ -16,14 +19,22 @@ EXAMPLE = "sid=a3f; Path=/; Max-Age=3600"
 HOSTS = ("shop.com", "*.shop.com")
 
 
-class Site(BaseHTTPRequestHandler):
+class Handler(BaseHTTPRequestHandler):
+    """Answers requests, and writes nothing of them."""
+
+    protocol_version = "HTTP/1.1"
+
+    def log_message(self, *_):
+        pass
+
+
+class Site(Handler):
     """Answers each request with the next of what is to be said to its visit, and keeps the cookies that it has,
     the host that it asks, and the whole of it.
 
     A visit is what the field X-Visit names; one without it is that of an example. What is said are lines to set, a
     Location or None, and a status line's words where they aren't the usual ones."""
 
-    protocol_version = "HTTP/1.1"
     said, heard, asked, had = {}, defaultdict(list), defaultdict(list), defaultdict(list)
 
     def do_GET(self):
@@ -42,9 +53,6 @@ class Site(BaseHTTPRequestHandler):
 
     do_HEAD = do_POST = do_PUT = do_GET
 
-    def log_message(self, *_):
-        pass
-
 
 class Quiet(ThreadingHTTPServer):
     daemon_threads, request_queue_size = True, 64
@@ -62,81 +70,71 @@ class Quiet(ThreadingHTTPServer):
         """Says nothing of a client that went: what it wasn't told is missed where it is compared."""
 
 
-def serve(certificate=None):
-    """The port of a server that ends with this process."""
-    server = Quiet(("127.0.0.1", 0), Site)
+def begun(handler, certificate=None):
+    """A server that ends with this process, by https where it has a certificate."""
+    server = Quiet(("127.0.0.1", 0), handler)
     if certificate:
         server.context = ssl.SSLContext(ssl.PROTOCOL_TLS_SERVER)
         server.context.load_cert_chain(certificate)
     threading.Thread(target=server.serve_forever, daemon=True).start()
-    return server.server_port
+    return server
+
+
+def serve(certificate=None, handler=Site):
+    return begun(handler, certificate).server_port
 
 
 def asked_of(client):
     """The head of a request, or what came of it."""
     asked = b""
-    while b"\r\n\r\n" not in asked:
-        read = client.recv(4096)
-        if not read:
-            break
+    while b"\r\n\r\n" not in asked and (read := client.recv(4096)):
         asked += read
     return asked
+
+
+def handling(answer):
+    """What has a function answer each client, in a thread of its own."""
+    return type("Answer", (BaseRequestHandler,), {"handle": lambda self: answer(self.request)})
 
 
 def strangers(*answers):
     """The port of a site that ends with this process, and the heads of the requests that it has had so far: it answers
     one after another with the next of these, each bytes, and seconds to wait between them."""
-    site, had = socket.create_server(("127.0.0.1", 0)), []
+    had, left = [], iter(answers)
 
-    def say(client, parts):
-        with client:
-            had.append(asked_of(client))
-            for part in parts:
-                if isinstance(part, bytes):
-                    client.sendall(part)
-                else:
-                    time.sleep(part)
+    def say(client):
+        parts = next(left)
+        had.append(asked_of(client))
+        for part in parts if isinstance(parts, tuple) else (parts,):
+            if isinstance(part, bytes):
+                client.sendall(part)
+            else:
+                time.sleep(part)
 
-    def accept():
-        for parts in answers:
-            client, _ = site.accept()
-            each = parts if isinstance(parts, tuple) else (parts,)
-            threading.Thread(target=say, args=(client, each), daemon=True).start()
-
-    threading.Thread(target=accept, daemon=True).start()
-    return site.getsockname()[1], had
+    return begun(handling(say)).server_port, had
 
 
 def tunnel_to(port, *answers):
     """The port of a proxy that ends with this process: it answers the CONNECTs of a client so, one after another, and
     leads to that port behind the last, whatever is asked."""
-    proxy = socket.create_server(("127.0.0.1", 0))
-
     def pour(one, other):
-        try:
+        with contextlib.suppress(OSError):
             while read := one.recv(65536):
                 other.sendall(read)
             other.shutdown(socket.SHUT_WR)
-        except OSError:
-            pass  # (the other side went)
 
     def lead(client):
         for answer in answers:
             if not asked_of(client):
                 return
             client.sendall(answer)
-        with socket.create_connection(("127.0.0.1", port)) as site, client:
+        with socket.create_connection(("127.0.0.1", port)) as site:
             back = threading.Thread(target=pour, args=(site, client), daemon=True)
             back.start()
             pour(client, site)
             back.join()
 
-    def accept():
-        while True:
-            threading.Thread(target=lead, args=(proxy.accept()[0],), daemon=True).start()
-
-    threading.Thread(target=accept, daemon=True).start()
-    return proxy.getsockname()[1]
+    return begun(handling(lead)).server_port
 
 
 def made_certificate(folder, hosts=HOSTS):
@@ -144,9 +142,7 @@ def made_certificate(folder, hosts=HOSTS):
     words = ["req", "-x509", "-newkey", "ec", "-pkeyopt", "ec_paramgen_curve:prime256v1", "-nodes", "-days", "2"]
     words += ["-subj", "/CN=loopback", "-addext", f"subjectAltName={','.join(f'DNS:{it}' for it in hosts)}"]
     subprocess.run(["openssl", *words, "-keyout", path, "-out", f"{path}.2"], check=True, capture_output=True)
-    with open(path, "ab") as to:
-        to.write(Path(f"{path}.2").read_bytes())
-    return path
+    return written(path, read(path) + read(f"{path}.2"))
 
 
 def connections(ports):
@@ -161,10 +157,8 @@ def put_curl(folder, ports, *more):
     written before threads start any."""
     path, words = f"{folder}/curl", [word for it in connections(ports) for word in ("--connect-to", it)]
     here = " ".join(f"'{it}'" for it in (*more, *words))
-    with open(path, "w", encoding="utf-8") as to:
-        to.write(f'''#!/bin/sh
+    os.chmod(written(path, f'''#!/bin/sh
 [ "${{1-}}" != -q ] || shift
 [ -z "${{WAY-}}" ] || exec '{shutil.which("curl")}' -q -k --noproxy 127.0.0.1 $WAY "$@"
 exec '{shutil.which("curl")}' -q {here} ${{VISIT:+-H "X-Visit: $VISIT"}} "$@"
-''')
-    os.chmod(path, 0o755)
+'''), 0o755)

@@ -43,6 +43,12 @@ def has_git(top):
     return os.path.lexists(f"{path}/HEAD") if os.path.isdir(path) else os.path.lexists(path)
 
 
+def needs_of(text):
+    """What each line of a crates.txt says that a crate stands on. (A kind may stand behind its name.)"""
+    lines = [it.split("#")[0].partition(":") for it in text.splitlines()]
+    return {head.split()[0]: needs.split() for head, colon, needs in lines if colon}
+
+
 def walked(top, *parts):
     """The files of these files and folders of a tree, but for what is built, and git's own."""
     names = [it for it in parts if os.path.isfile(f"{top}/{it}")]
@@ -78,8 +84,7 @@ def sum_of_files(top, names):
 
 
 def commit(top):
-    """The commit of a tree, `+` behind it where files differ from it or are unknown to it, or None where there is none
-    or no git."""
+    """The commit of a tree, `+` behind it where files differ from it or are unknown to it, or None without one."""
     told = git(top, "status", "--porcelain=v2", "--branch")
     if told is None:
         return None

@@ -6,17 +6,18 @@ import subprocess
 import sys
 import tempfile
 import time
-from concurrent.futures import ThreadPoolExecutor
 from dataclasses import dataclass, field
 
 sys.dont_write_bytecode = True
 sys.path.insert(0, os.path.dirname(os.path.dirname(os.path.abspath(__file__))))
 
-from gate import pages
-from gate.kit import CC, demand, load_rt, place
+from gate import bounded, pages
+from gate.kit import CC, TOP, demand, load_rt, place, text_of, written
+from gate.script import side_by_side
 
-HERE = os.path.dirname(os.path.abspath(__file__))
 CRATE = "unproved_tests"
+# Where a run keeps the program of the tests.
+PROGRAM = f"{TOP}/out/tests/{CRATE}"
 # What the names of its sources end with.
 SUFFIX = ".rt.txt"
 # What its program writes where it refuses a growth.
@@ -28,47 +29,33 @@ SECONDS = 900
 FAILED = re.compile(r"\bmade to fail: (\d+) (\d+) (\d+) (\d+)$", re.M)
 
 
-def sources(top):
-    """The paths of its sources, from tests/ on."""
-    found = [os.path.join(at, it) for at, _, names in os.walk(f"{top}/tests") for it in names if it.endswith(SUFFIX)]
-    return sorted(os.path.relpath(it, f"{top}/tests") for it in found)
+def sources():
+    found = [os.path.join(at, it) for at, _, names in os.walk(f"{TOP}/tests") for it in names if it.endswith(SUFFIX)]
+    return sorted(os.path.relpath(it, f"{TOP}/tests") for it in found)
 
 
-def program(top):
-    """Where a run keeps the program of the tests."""
-    return f"{top}/out/tests/{CRATE}"
-
-
-def put(top, room, layers=(), filled=pages.filled):
+def put(room, layers=(), filled=pages.filled):
     """Copies the crates to a folder, with the tests as one more crate, all of them or those of some layers alone, and
     with the pages' blocks, and returns that one's folder."""
-    shutil.copytree(f"{top}/crates", f"{room}/crates", ignore=shutil.ignore_patterns("out", "must-fail", "proofs"))
+    shutil.copytree(f"{TOP}/crates", f"{room}/crates", ignore=shutil.ignore_patterns("out", "must-fail", "proofs"))
     folder = f"{room}/crates/{CRATE}"
-    for path in sources(top):
+    for path in sources():
         # (a file that no `mod` names is refused)
-        if layers and re.split(r"[/.]", path)[0] not in ("lib", *layers):
-            continue
-        to = f"{folder}/src/{path.removesuffix('.txt')}"
-        os.makedirs(os.path.dirname(to), exist_ok=True)
-        with open(f"{top}/tests/{path}", encoding="utf-8") as file, open(to, "w", encoding="utf-8") as out:
-            out.write(filled(file.read()))
-    with open(f"{room}/crates.txt", "w", encoding="utf-8") as to:
-        for path in ("crates.txt", "tests/crate.txt"):
-            with open(f"{top}/{path}", encoding="utf-8") as file:
-                to.write(file.read())
+        if not layers or re.split(r"[/.]", path)[0] in ("lib", *layers):
+            written(f"{folder}/src/{path.removesuffix('.txt')}", filled(text_of(f"{TOP}/tests/{path}")))
+    written(f"{room}/crates.txt", text_of(f"{TOP}/crates.txt") + text_of(f"{TOP}/tests/crate.txt"))
     if layers:
-        with open(f"{folder}/src/lib.rt", "w", encoding="utf-8") as to:
-            to.write("#![tactic(auto)]\n\n" + "".join(f"mod {it};\n" for it in sorted(layers)))
+        written(f"{folder}/src/lib.rt", "#![tactic(auto)]\n\n" + "".join(f"mod {it};\n" for it in sorted(layers)))
     return folder
 
 
-def format_all(top):
+def format_all():
     """Formats its sources as `rt fmt` does."""
     with tempfile.TemporaryDirectory(prefix="tests-") as room:
-        folder = put(top, room, filled=str)
+        folder = put(room, filled=str)
         status = subprocess.run(["rt", "fmt"], cwd=folder).returncode
-        for path in sources(top):
-            shutil.copyfile(f"{folder}/src/{path.removesuffix('.txt')}", f"{top}/tests/{path}")
+        for path in sources():
+            shutil.copyfile(f"{folder}/src/{path.removesuffix('.txt')}", f"{TOP}/tests/{path}")
     return status
 
 
@@ -88,7 +75,7 @@ class Ran:
         return [sum(it) for it in zip(*told)] or [0] * 4
 
 
-def run(top, planted=None):
+def run(planted=None):
     """Compiles the tests with the crates below from their sources, runs each, and keeps the program.
 
     The program is that of `rt try --test`, with one more object file in it, which can refuse a growth of memory.
@@ -96,19 +83,18 @@ def run(top, planted=None):
     and such a program isn't kept.
     """
     demand("rt", CC[0])
-    to = program(top)
     if not planted:
-        os.makedirs(os.path.dirname(to), exist_ok=True)
-        if os.path.exists(to):
-            os.remove(to)
+        os.makedirs(os.path.dirname(PROGRAM), exist_ok=True)
+        if os.path.exists(PROGRAM):
+            os.remove(PROGRAM)
     # (a program is linked to its place, so it is made on the same file system)
-    with tempfile.TemporaryDirectory(prefix="try-", dir=None if planted else os.path.dirname(to)) as room:
-        put(top, room, planted.layers if planted else ())
-        if planted:
-            plant(planted, room)
-        kept = f"{room}/kept" if planted else to
+    with tempfile.TemporaryDirectory(prefix="try-", dir=None if planted else os.path.dirname(PROGRAM)) as room:
+        put(room, planted.layers if planted else ())
+        for file, old, new in planted.pairs if planted else ():
+            written(f"{room}/{file}", text_of(f"{room}/{file}").replace(old, new))
+        kept = f"{room}/kept" if planted else PROGRAM
         words = [*CC, "-O2", "-fPIC", "-c", f'-DKEPT="{kept}"', f'-DTOLD="{TOLD}"']
-        subprocess.run([*words, f"{HERE}/refuse.c", "-o", f"{room}/refuse.o"], check=True)
+        subprocess.run([*words, f"{TOP}/tools/gate/refuse.c", "-o", f"{room}/refuse.o"], check=True)
         log = compiled(room, kept)
         return Ran(log) if log else Ran(tests=run_each(kept, room))
 
@@ -132,8 +118,7 @@ def run_each(path, room):
     command = command_of(path)
     # (those of many rows take longest, and would be run last)
     names = sorted(listed(command), key=lambda name: "many" not in name)
-    with ThreadPoolExecutor(len(os.sched_getaffinity(0))) as pool:
-        return dict(zip(names, pool.map(lambda name: run_one(command, name, room), names)))
+    return dict(zip(names, side_by_side(lambda name: run_one(command, name, room), names)))
 
 
 def listed(command):
@@ -142,29 +127,9 @@ def listed(command):
 
 
 def run_one(command, name, room):
-    """Whether the test passed, and what it wrote."""
     with tempfile.TemporaryDirectory(dir=room) as folder:
-        how = {"stdin": subprocess.DEVNULL, "stdout": subprocess.PIPE, "stderr": subprocess.STDOUT}
-        try:
-            ran = subprocess.run([*command, name], cwd=folder, timeout=SECONDS, **how)
-        except subprocess.TimeoutExpired:
-            return False, f"it had not ended after {SECONDS} seconds"
-    return not ran.returncode, ran.stdout.decode(errors="replace")
-
-
-def plant(edit, room):
-    """Puts an edit into the sources there."""
-    for file, old, new in edit.pairs:
-        with open(f"{room}/{file}", "r+", encoding="utf-8") as it:
-            text = it.read()
-            it.seek(0)
-            it.truncate()
-            it.write(text.replace(old, new))
-
-
-def command(top):
-    """The words that run one of its tests, or list them."""
-    return command_of(program(top))
+        status, out, told = bounded.run([*command, name], SECONDS, cwd=folder)
+    return status == 0, (out + told).decode(errors="replace")
 
 
 def command_of(path):
