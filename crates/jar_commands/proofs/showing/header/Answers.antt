@@ -1,5 +1,4 @@
 use Rattle.std.proofs.Common.{subst}
-use Rattle.std.specs.Prelude.{string_bytes}
 use Rattle.jar_commands.specs.Outcomes.{Prints, outcome_text}
 use Rattle.jar_commands.proofs.showing.header.Goals as goal
 
