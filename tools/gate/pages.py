@@ -15,7 +15,7 @@ FENCE = re.compile(r"^( *)```+(\w*)")
 HEADING = re.compile(r"^#+ +(.*?) *#*$")
 BINDINGS = "bindings/README.md"
 # The files that take blocks, and the languages of the blocks that each kind of page has to have taken.
-FILES = ("tests/**/*.rt.txt", "crates/proved_tests/src/**/*.rt", "bindings/**/*.c", "bindings/**/*.rs", "bindings/go/*.go",
+FILES = ("tests/**/*.rt.txt", "crates/*_tests/src/**/*.rt", "bindings/**/*.c", "bindings/**/*.rs", "bindings/go/*.go",
          "bindings/test", "bindings/node/test.js", "tools/gate/fleet_example.py")
 HELD = {"README.md": ("c", "rs", "rust", "python"), BINDINGS: ("c", "rust", "js", "go"), "crates": ("rust",)}
 TAKEN = re.compile(r"README: (\S+\.md) (\w+) (\d+)")
