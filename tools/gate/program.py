@@ -239,7 +239,7 @@ def put_compiled(command, room, path, log):
     compiler.compiled(crate, room, CLANG, log, [word for it in links for word in ("--link", it)])
     if not os.path.isfile(f"{made}.program"):
         return False
-    put_words(made, path)
+    put_words(made)
     folder = os.path.dirname(os.path.dirname(path))
     for it in os.listdir(folder):
         if it not in ("lock", os.path.basename(room)):
@@ -248,10 +248,10 @@ def put_compiled(command, room, path, log):
     return True
 
 
-def put_words(made, path):
-    """Puts a file where the program is made that runs it at its last path, by the toolchain's C library."""
+def put_words(made):
+    """Puts a file beside the program, wherever both are moved, that runs it by the toolchain's C library."""
     lib = place("lib")
-    words = f'"{lib}/ld-linux-x86-64.so.2" --inhibit-cache --library-path "{lib}" "{path}.program" "$@"'
+    words = f'"{lib}/ld-linux-x86-64.so.2" --inhibit-cache --library-path "{lib}" "$0.program" "$@"'
     os.chmod(written(made, f"#!/bin/sh\nexec {words}\n"), 0o755)
 
 
