@@ -3,12 +3,15 @@
 An exchange has a number, by which the site draws its lines. So what a fleet did is known from the order in which Redis
 was given its shards, which its append-only file tells, and from what the workers wrote down of each exchange.
 """
+import contextlib
 import http.client
 import json
 import os
 import random
 import re
+import signal
 import struct
+import threading
 import time
 from collections import defaultdict
 
@@ -64,12 +67,21 @@ class Exchange:
 # ---- the site
 
 class Site(Handler):
-    """Answers each request with the lines of its exchange, by 400 where a cookie isn't its own. Its server knows how
-    many `hosts` there are."""
+    """Answers each request with the lines of its exchange, by 400 where a cookie isn't its own.
+
+    Its server knows how many `hosts` there are, and what `ends` at which exchange: a worker is killed a moment after it
+    asked, and of Redis the event `strikes` tells."""
 
     def do_GET(self):
-        exchange = Exchange(int(self.headers["X-Exchange"]), self.server.hosts)
+        number = int(self.headers["X-Exchange"])
+        exchange = Exchange(number, self.server.hosts)
         is_wrong = exchange.wrong(self.headers.get("Cookie", "")) or self.headers["Host"] != exchange.host
+        what = self.server.ends.pop(number, None)
+        if what == "redis":
+            self.server.strikes.set()
+        elif what:
+            words = int(self.headers["X-Worker"]), signal.SIGKILL
+            threading.Timer(random.random() / 100, os.kill, words).start()
         self.send_response(400 if is_wrong else 200)
         for it in exchange.lines:
             self.send_header("Set-Cookie", it)
@@ -79,7 +91,7 @@ class Site(Handler):
 
 # ---- workers
 
-def work(mine, hosts, ports, log, plant):
+def work(mine, hosts, ports, log):
     """Makes these exchanges, and writes down the header of each and the version at which it was read, and what became
     of its lines once it is told. Each note has the moments at which the call began and ended."""
     import redis
@@ -95,7 +107,7 @@ def work(mine, hosts, ports, log, plant):
         def get(self, key):
             text, self.got = super().get(key)
             # (so that others come between reading a shard and putting it)
-            time.sleep(0.002 if plant else 0)
+            time.sleep(0.002)
             return text, self.got
 
         def fresh(self):
@@ -104,60 +116,46 @@ def work(mine, hosts, ports, log, plant):
 
     store = Noted(redis.Redis(port=ports[0], socket_timeout=60, retry=Retry(NoBackoff(), 0)))
     shared, site = fleet.Fleet(LIST, store), http.client.HTTPConnection("127.0.0.1", ports[1])
-    PLANTS.get(plant, lambda *_: None)(fleet, store)
 
-    def note(**what):
-        os.write(log, json.dumps(what).encode() + b"\n")
+    def note(number, **what):
+        os.write(log, json.dumps({"number": number, **what}).encode() + b"\n")
 
-    def timed(call, exchange, *words):
+    def timed(call, *words):
         began = time.monotonic()
-        told = call(exchange.url, *words, exchange.now)
+        told = call(*words)
         return told, (began, time.monotonic())
 
     def asked(exchange):
         while True:
-            try:
-                return timed(shared.header, exchange)
-            except redis.ConnectionError:
-                time.sleep(0.02)
+            with contextlib.suppress(redis.ConnectionError):
+                return timed(shared.header, exchange.url, exchange.now)
+            time.sleep(0.02)
 
     for number in mine:
         exchange, store.number, store.tries = Exchange(number, hosts), number, 0
         header, times = asked(exchange)
-        note(number=number, version=store.got.hex(), header=header, times=times)
-        site.request("GET", exchange.path, headers={"Host": exchange.host, "X-Exchange": str(number),
-                                                    **({"Cookie": header} if header else {})})
+        note(number, version=store.got.hex(), header=header, times=times)
+        fields = {"Host": exchange.host, "X-Exchange": str(number), "X-Worker": str(os.getpid())}
+        site.request("GET", exchange.path, headers={**fields, **({"Cookie": header} if header else {})})
         with site.getresponse() as answer:
             lines = answer.headers.get_all("Set-Cookie")
             if answer.status != 200:
-                note(number=number, wrong=header)
-        try:
-            ends, times = timed(shared.receive, exchange, lines)
-            note(number=number, ends=ends, times=times)
-        except redis.ConnectionError:
-            pass  # (it may be put or not)
+                note(number, wrong=header)
+        # (where the connection is lost it may be put or not)
+        with contextlib.suppress(redis.ConnectionError):
+            ends, times = timed(shared.receive, exchange.url, lines, exchange.now)
+            note(number, ends=ends, times=times)
 
 
-# ---- planted faults
-
-def blind(module, store):
-    """A store that puts without a look at the version."""
-    store.PUT = "redis.call('SET', KEYS[1], ARGV[2]) return 1"
-
-
-def hasty(module, store):
-    """A fleet that takes what wasn't put for put."""
-    is_put = module.Fleet._is_put
-    module.Fleet._is_put = lambda *words: is_put(*words) or True
-
-
-def bare(module, store):
-    """A fleet that loses of its cookies what no header has."""
-    text = module._text
-    module._text = lambda client: text(client).replace(b"; HttpOnly", b"")
-
-
-PLANTS = {it.__name__: it for it in (blind, hasty, bare)}
+def plants():
+    """Faults of a fleet, each as what stands in the place of a name."""
+    from fonnalich import fleet
+    is_put, text = fleet.Fleet._is_put, fleet._text
+    return {
+        "blind to versions": (fleet.RedisStore, "PUT", "redis.call('SET', KEYS[1], ARGV[2]) return 1"),
+        "told of a put that wasn't": (fleet.Fleet, "_is_put", lambda *words: is_put(*words) or True),
+        "without what no header has": (fleet, "_text", lambda client: text(client).replace(b"; HttpOnly", b"")),
+    }
 
 
 # ---- the one client

@@ -2,11 +2,10 @@
 
 Other visits are to a site that sends what is no answer, and while Redis is away: neither may end a worker.
 """
-import re
-import subprocess
 import sys
 import tempfile
 import time
+from concurrent.futures import ThreadPoolExecutor
 from urllib.parse import urlsplit
 
 from . import bounded, pages, servers, site
@@ -16,20 +15,16 @@ from .peers import environment
 # Of a worker on a calm machine, and how long Redis is away, in seconds.
 SECONDS, AWAY = 30, 1
 LIST, COOKIE = b"test\n", "sid=a3f"
-PATHS = range(20)
-# What a site may send that isn't an answer, and a part of what a worker says of it: newer Pythons read a long body
-# piece by piece, and older ones ask for all its memory at once.
-MANGLED = {
-    "nothing": (b"", "RemoteDisconnected"),
-    "junk": (b"junk\n200 2\r\n\r\n", "BadStatusLine"),
-    "cut": (b"HTTP/1.1 200 OK\r\nContent-Length: 9\r\n\r\nok", "IncompleteRead"),
-    "long": (b"HTTP/1.1 200 OK\r\nContent-Length: 1" + b"0" * 30 + b"\r\n\r\nok", "OverflowError|IncompleteRead"),
-    "chunk": (b"HTTP/1.1 200 OK\r\nTransfer-Encoding: chunked\r\n\r\nx\r\n", "IncompleteRead"),
-    "line": (b"HTTP/1.1 200 OK\r\nSet-Cookie: " + b"a" * 70000 + b"\r\n\r\n", "LineTooLong"),
-    "port": (b"HTTP/1.1 302 Found\r\nLocation: http://a:b/\r\n\r\n", "Url"),
-    "body": (b"HTTP/1.1 302 Found\r\nLocation: /\r\nContent-Length: 1" + b"0" * 17 + b"\r\n\r\n",
-             "MemoryError|IncompleteRead"),
-}
+WORKER = [sys.executable, "-B", f"{TOP}/examples/fleet/worker.py"]
+# What a site may send that isn't an answer, or leads to no URL.
+MANGLED = (
+    b"", b"junk\n200 2\r\n\r\n", b"HTTP/1.1 200 OK\r\nContent-Length: 9\r\n\r\nok",
+    b"HTTP/1.1 200 OK\r\nContent-Length: 1" + b"0" * 30 + b"\r\n\r\nok",
+    b"HTTP/1.1 200 OK\r\nTransfer-Encoding: chunked\r\n\r\nx\r\n",
+    b"HTTP/1.1 302 Found\r\nLocation: http://a:b/\r\n\r\n",
+    b"HTTP/1.1 302 Found\r\nLocation: /\r\nContent-Length: 1" + b"0" * 17 + b"\r\n\r\n",
+)
+NO_URLS = ("shop", "", b"http://\xff.test/", "http://a b/", "http://[/", "ftp://[::1]:1/")
 
 
 class Shop(site.Handler):
@@ -37,9 +32,9 @@ class Shop(site.Handler):
 
     def do_GET(self):
         url, had = urlsplit(self.path), self.headers.get("Cookie")
-        if url.hostname == "mangled.test" and url.path[1:] in MANGLED:
+        if url.hostname == "mangled.test":
             self.close_connection = True
-            self.wfile.write(MANGLED[url.path[1:]][0])
+            self.wfile.write(MANGLED[int(url.path[1:])])
             return
         if url.query == "away":
             self.server.redis.kill()
@@ -56,80 +51,59 @@ class Shop(site.Handler):
 def wrong():
     with tempfile.TemporaryDirectory(prefix="example-") as room:
         server, shop = servers.Redis(room), site.begun(Shop)
-        written(f"{room}/list", LIST)
         server.start()
         shop.redis = server
-        env = {**environment(), "REDIS": f"redis://127.0.0.1:{server.port}", "LIST": f"{room}/list", "no_proxy": "",
-               "http_proxy": f"http://127.0.0.1:{shop.server_port}", "PYTHONPATH": f"{TOP}/bindings/python"}
+        env = {**environment(), "REDIS": f"redis://127.0.0.1:{server.port}", "LIST": written(f"{room}/list", LIST),
+               "http_proxy": f"http://127.0.0.1:{shop.server_port}", "no_proxy": "",
+               "PYTHONPATH": f"{TOP}/bindings/python"}
         try:
-            return visits(server, env) + mangled_visits(server, env) + visits_without_redis(server, env)
+            return [it for visits in (shared, mangled, without_redis) for it in visits(server, env)]
         finally:
             server.kill()
             shop.shutdown()
 
 
-def visits(server, env):
+def shared(server, env):
     """What is wrong with visits before a log-in, the log-in, and visits of two workers behind it."""
-    shared = [f"http://{host}/{i}" for i in PATHS for host in ("shop.test", "www.shop.test", "b.test")]
+    urls = [f"http://{host}/{i}" for i in range(20) for host in ("shop.test", "www.shop.test", "b.test")]
     for workers, urls, status in ((1, ["http://shop.test/a"], "403"), (1, ["http://shop.test/login"], "200 2"),
-                                  (2, shared, "200 2")):
+                                  (2, urls, "200 2")):
         said = visited(server, workers, urls, env)
         if sorted(said) != sorted(f"{url} {status}" for url in urls):
-            return [f"of {urls} was said {said}"]
+            yield f"of {urls} was said {said}"
     block = pages.filled("# README: README.md python 2\n")
     said = bounded.run([sys.executable, "-B", "-c", block], SECONDS, env=env)
-    return [] if said == (0, b"cart=3\n", b"") else [f"README's block said {said}"]
+    if said != (0, b"cart=3\n", b""):
+        yield f"README's block said {said}"
 
 
-def mangled_visits(server, env):
+def mangled(server, env):
     """What is wrong with visits of one worker to what isn't an answer, and to what is no URL."""
-    no_urls = ["shop", "", b"http://\xff.test/", "http://a b/", "http://[/", "ftp://[::1]:1/"]
-    last = "http://b.test/last"
-    wanted = {f"http://mangled.test/{name}": words for name, (_, words) in MANGLED.items()}
-    said = visited(server, 1, [*wanted, *no_urls, last], env)
-    wrong = [f"of {url} was said {line}" for (url, words), line in zip(wanted.items(), said)
-             if not line.startswith(f"{url} failed") or not re.search(words, line)]
-    is_whole = len(said) == len(wanted) + len(no_urls) + 1 and said[-1] == f"{last} 200 2"
-    wrong += [it for it in said[len(wanted):-1] if " failed: " not in it]
-    return wrong + ([] if is_whole else [f"a worker said {said}"])
+    urls = [*(f"http://mangled.test/{i}" for i in range(len(MANGLED))), *NO_URLS]
+    *said, last = visited(server, 1, [*urls, "http://b.test/last"], env)
+    if len(said) != len(urls) or not all(" failed: " in it for it in said) or last != "http://b.test/last 200 2":
+        yield f"a worker said {said}, and {last}"
 
 
-def visits_without_redis(server, env):
+def without_redis(server, env):
     """What is wrong with a worker from which Redis goes away in a visit, and for a while."""
-    put(server, ["http://b.test/login?away", "http://b.test/1"])
-    worker = begun_worker(env)
-    bounded.is_awaited(lambda: server.process.poll() is not None or worker.poll() is not None, SECONDS)
-    server.kill()
-    time.sleep(AWAY)
-    server.start()
-    said = said_by([worker])
-    is_right = len(said) == 2 and " failed: ConnectionError" in said[0] and said[1] == "http://b.test/1 200 2"
-    return [] if is_right else [f"a worker without Redis said {said}"]
+    with ThreadPoolExecutor() as pool:
+        ran = pool.submit(visited, server, 1, ["http://b.test/login?away", "http://b.test/1"], env)
+        bounded.is_awaited(lambda: ran.done() or server.process.poll() is not None, SECONDS)
+        server.kill()
+        time.sleep(AWAY)
+        server.start()
+        said = ran.result()
+    if len(said) != 2 or " failed: ConnectionError" not in said[0] or said[1] != "http://b.test/1 200 2":
+        yield f"a worker without Redis said {said}"
 
 
 def visited(server, workers, urls, env):
-    put(server, urls)
-    return said_by([begun_worker(env) for _ in range(workers)])
-
-
-def put(server, urls):
-    """Has the workers to come visit these URLs."""
+    """The lines of workers that visit these URLs, and how one ended where it didn't end well."""
     import redis
     with redis.Redis(port=server.port) as asked:
         asked.rpush("urls", *urls)
-
-
-def begun_worker(env):
-    words = [sys.executable, "-B", f"{TOP}/examples/fleet/worker.py"]
-    return subprocess.Popen(words, env=env, stdout=subprocess.PIPE, text=True)
-
-
-def said_by(workers):
-    """The lines of workers once they have ended, and how one did where it didn't end well."""
-    try:
-        said = [line for it in workers for line in it.communicate(timeout=bounded.patience(SECONDS))[0].splitlines()]
-        return said + [f"status {it.returncode}" for it in workers if it.returncode]
-    finally:
-        for it in workers:
-            it.kill()
-            it.wait()
+    with ThreadPoolExecutor(workers) as pool:
+        ended = [*pool.map(lambda _: bounded.run(WORKER, SECONDS, env=env), range(workers))]
+    lines = [line for _, out, told in ended for line in (out + told).decode().splitlines()]
+    return lines + [f"status {status}" for status, *_ in ended if status != 0]

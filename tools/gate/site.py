@@ -1,13 +1,11 @@
 """Sites on loopback, by http and by https, and how curl finds them whatever the host and the port."""
-import contextlib
 import os
 import shutil
-import socket
 import ssl
 import subprocess
 import threading
 import time
-from collections import defaultdict
+from collections import defaultdict, namedtuple
 from http.server import BaseHTTPRequestHandler, ThreadingHTTPServer
 from socketserver import BaseRequestHandler
 
@@ -28,21 +26,24 @@ class Handler(BaseHTTPRequestHandler):
         pass
 
 
+Request = namedtuple("Request", "method host target fields cookies body")
+
+
 class Site(Handler):
-    """Answers each request with the next of what is to be said to its visit, and keeps the cookies that it has,
-    the host that it asks, and the whole of it.
+    """Answers each request with the next of what is to be said to its visit, and keeps the cookies that it has, and the
+    whole of it.
 
     A visit is what the field X-Visit names; one without it is that of an example. What is said are lines to set, a
     Location or None, and a status line's words where they aren't the usual ones."""
 
-    said, heard, asked, had = {}, defaultdict(list), defaultdict(list), defaultdict(list)
+    said, heard, had = {}, defaultdict(list), defaultdict(list)
 
     def do_GET(self):
         visit = self.headers["X-Visit"]
         host, body = self.headers["Host"].lower(), self.rfile.read(int(self.headers["Content-Length"] or 0))
-        Site.asked[visit].append(host)
-        Site.heard[visit].append(b"; ".join(it.encode("latin-1") for it in self.headers.get_all("Cookie", [])))
-        Site.had[visit].append((self.command, host, self.path, self.headers, body))
+        cookies = b"; ".join(it.encode("latin-1") for it in self.headers.get_all("Cookie", []))
+        Site.heard[visit].append(cookies)
+        Site.had[visit].append(Request(self.command, host, self.path, self.headers, cookies, body))
         nothing = ([] if visit else [EXAMPLE.encode()], None)
         lines, location, *status = Site.said[visit].pop(0) if Site.said.get(visit) else nothing
         fields = [b"Set-Cookie: " + line for line in lines] + ([b"Location: " + location] if location else [])
@@ -80,21 +81,10 @@ def begun(handler, certificate=None):
     return server
 
 
-def serve(certificate=None, handler=Site):
-    return begun(handler, certificate).server_port
-
-
-def asked_of(client):
-    """The head of a request, or what came of it."""
-    asked = b""
-    while b"\r\n\r\n" not in asked and (read := client.recv(4096)):
-        asked += read
-    return asked
-
-
-def handling(answer):
-    """What has a function answer each client, in a thread of its own."""
-    return type("Answer", (BaseRequestHandler,), {"handle": lambda self: answer(self.request)})
+def served(folder, handler=Site, hosts=HOSTS):
+    """The ports of two servers, by http and by https, and the certificate of these hosts that the second one has."""
+    certificate = made_certificate(folder, hosts)
+    return [begun(handler, it).server_port for it in (None, certificate)], certificate
 
 
 def strangers(*answers):
@@ -102,39 +92,19 @@ def strangers(*answers):
     one after another with the next of these, each bytes, and seconds to wait between them."""
     had, left = [], iter(answers)
 
-    def say(client):
-        parts = next(left)
-        had.append(asked_of(client))
-        for part in parts if isinstance(parts, tuple) else (parts,):
-            if isinstance(part, bytes):
-                client.sendall(part)
-            else:
-                time.sleep(part)
+    class Stranger(BaseRequestHandler):
+        def handle(self):
+            parts, asked = next(left), b""
+            while b"\r\n\r\n" not in asked and (read := self.request.recv(4096)):
+                asked += read
+            had.append(asked)
+            for part in parts if isinstance(parts, tuple) else (parts,):
+                if isinstance(part, bytes):
+                    self.request.sendall(part)
+                else:
+                    time.sleep(part)
 
-    return begun(handling(say)).server_port, had
-
-
-def tunnel_to(port, *answers):
-    """The port of a proxy that ends with this process: it answers the CONNECTs of a client so, one after another, and
-    leads to that port behind the last, whatever is asked."""
-    def pour(one, other):
-        with contextlib.suppress(OSError):
-            while read := one.recv(65536):
-                other.sendall(read)
-            other.shutdown(socket.SHUT_WR)
-
-    def lead(client):
-        for answer in answers:
-            if not asked_of(client):
-                return
-            client.sendall(answer)
-        with socket.create_connection(("127.0.0.1", port)) as site:
-            back = threading.Thread(target=pour, args=(site, client), daemon=True)
-            back.start()
-            pour(client, site)
-            back.join()
-
-    return begun(handling(lead)).server_port
+    return begun(Stranger).server_port, had
 
 
 def made_certificate(folder, hosts=HOSTS):
@@ -145,20 +115,14 @@ def made_certificate(folder, hosts=HOSTS):
     return written(path, read(path) + read(f"{path}.2"))
 
 
-def connections(ports):
-    """Where curl connects to, as options: by http to the first port, by https to the second."""
-    plain, secure = ports
-    return [f":443:127.0.0.1:{secure}", f"::127.0.0.1:{plain}"]
-
-
 def put_curl(folder, ports, *more):
     """Writes a program `curl` for a PATH: it finds the sites, and asks with these words as the visit that VISIT names,
     or with those of WAY alone. Where a thread forks while a program is written, that can't be run at once: so it is
     written before threads start any."""
-    path, words = f"{folder}/curl", [word for it in connections(ports) for word in ("--connect-to", it)]
-    here = " ".join(f"'{it}'" for it in (*more, *words))
-    os.chmod(written(path, f'''#!/bin/sh
+    here = " ".join(f"'{it}'" for it in more)
+    os.chmod(written(f"{folder}/curl", f'''#!/bin/sh
 [ "${{1-}}" != -q ] || shift
 [ -z "${{WAY-}}" ] || exec '{shutil.which("curl")}' -q -k --noproxy 127.0.0.1 $WAY "$@"
-exec '{shutil.which("curl")}' -q {here} ${{VISIT:+-H "X-Visit: $VISIT"}} "$@"
+set -- --connect-to :443:127.0.0.1:{ports[1]} --connect-to ::127.0.0.1:{ports[0]} ${{VISIT:+-H "X-Visit: $VISIT"}} "$@"
+exec '{shutil.which("curl")}' -q {here} "$@"
 '''), 0o755)
