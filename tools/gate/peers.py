@@ -43,6 +43,12 @@ def held_port():
     return held
 
 
+def is_listening(port):
+    """Whether something listens on a port of loopback."""
+    with socket.socket() as asked:
+        return asked.connect_ex(("127.0.0.1", port)) == 0
+
+
 def tested(words, seconds, folder):
     """How a command ended that uses the library in a folder, and what it wrote."""
     status, out, err = run(words, seconds, cwd=folder, env=environment())
