@@ -47,6 +47,12 @@ def run(words, seconds, given=None, **how):
             raise
 
 
+def told(words, seconds, **how):
+    """How a command ended, and all that it wrote as a text."""
+    status, out, err = run(words, seconds, **how)
+    return status, (out + err).decode(errors="replace")
+
+
 def give(stdin, given):
     with contextlib.suppress(OSError), stdin:
         stdin.write(given)

@@ -1,7 +1,7 @@
 """The parts of a play of a fleet: what its exchanges are, its site, its workers, Redis, and the one client beside them.
 
 An exchange has a number, by which the site draws its lines. So what a fleet did is known from the order in which Redis
-was given its shards, which its append-only file tells, and from what the workers wrote down of each exchange.
+was given its shards, which a list there tells, and from what the workers wrote down of each exchange.
 """
 import contextlib
 import http.client
@@ -46,44 +46,29 @@ class Exchange:
         return line + self.draw.choice(["", "; HttpOnly"])
 
     def line(self, name, path, is_shared, age):
-        """A line whose value says where it may be sent, and until when."""
-        where, until = f".{self.site}" if is_shared else self.host, "" if age is None else self.now + age
-        attributes = [f"Path={path}", *([f"Domain={self.site}"] if is_shared else [])]
+        attributes = [f"Path={path}", *[f"Domain={self.site}"] * is_shared]
         attributes += [f"Max-Age={age}"] if age is not None else []
-        return "; ".join([f"{name}={self.number}|{where}|{path}|{until}", *attributes])
-
-    def wrong(self, header):
-        """The pairs of its request's header that are no cookies of its host, path and moment."""
-        return [it for it in header.split("; ") if it and not self.is_right(it.partition("=")[2].split("|"))]
-
-    def is_right(self, parts):
-        if len(parts) != 4:
-            return False
-        _, where, path, until = parts
-        is_near = where == self.host or where[:1] == "." and f".{self.host}".endswith(where)
-        return is_near and (self.path + "/").startswith(path.rstrip("/") + "/") and (not until or self.now < int(until))
+        return "; ".join([f"{name}={self.number}", *attributes])
 
 
 # ---- the site
 
 class Site(Handler):
-    """Answers each request with the lines of its exchange, by 400 where a cookie isn't its own.
+    """Answers each request with the lines of its exchange.
 
     Its server knows how many `hosts` there are, and what `ends` at which exchange: a worker is killed a moment after it
     asked, and of Redis the event `strikes` tells."""
 
     def do_GET(self):
         number = int(self.headers["X-Exchange"])
-        exchange = Exchange(number, self.server.hosts)
-        is_wrong = exchange.wrong(self.headers.get("Cookie", "")) or self.headers["Host"] != exchange.host
         what = self.server.ends.pop(number, None)
         if what == "redis":
             self.server.strikes.set()
         elif what:
             words = int(self.headers["X-Worker"]), signal.SIGKILL
             threading.Timer(random.random() / 100, os.kill, words).start()
-        self.send_response(400 if is_wrong else 200)
-        for it in exchange.lines:
+        self.send_response(200)
+        for it in Exchange(number, self.server.hosts).lines:
             self.send_header("Set-Cookie", it)
         self.send_header("Content-Length", "0")
         self.end_headers()
@@ -93,7 +78,7 @@ class Site(Handler):
 
 def work(mine, hosts, ports, log):
     """Makes these exchanges, and writes down the header of each and the version at which it was read, and what became
-    of its lines once it is told. Each note has the moments at which the call began and ended."""
+    of its lines once it is told."""
     import redis
     from fonnalich import fleet
     from redis.backoff import NoBackoff
@@ -102,6 +87,9 @@ def work(mine, hosts, ports, log):
     class Noted(fleet.RedisStore):
         """A store that keeps the version of what was got last, and numbers what it puts."""
 
+        # (beside each shard that is put there stands in which order they were)
+        PUT = fleet.RedisStore.PUT.replace("redis.call('SET'", "redis.call('RPUSH', 'puts', KEYS[1], ARGV[2]) "
+                                                               "redis.call('SET'")
         number, tries, got = 0, 0, b""
 
         def get(self, key):
@@ -120,42 +108,20 @@ def work(mine, hosts, ports, log):
     def note(number, **what):
         os.write(log, json.dumps({"number": number, **what}).encode() + b"\n")
 
-    def timed(call, *words):
-        began = time.monotonic()
-        told = call(*words)
-        return told, (began, time.monotonic())
-
-    def asked(exchange):
-        while True:
-            with contextlib.suppress(redis.ConnectionError):
-                return timed(shared.header, exchange.url, exchange.now)
-            time.sleep(0.02)
-
     for number in mine:
-        exchange, store.number, store.tries = Exchange(number, hosts), number, 0
-        header, times = asked(exchange)
-        note(number, version=store.got.hex(), header=header, times=times)
-        fields = {"Host": exchange.host, "X-Exchange": str(number), "X-Worker": str(os.getpid())}
-        site.request("GET", exchange.path, headers={**fields, **({"Cookie": header} if header else {})})
+        exchange, store.number, store.tries, header = Exchange(number, hosts), number, 0, None
+        while header is None:
+            with contextlib.suppress(redis.ConnectionError):
+                header = shared.header(exchange.url, exchange.now)
+            time.sleep(0.001)
+        note(number, version=store.got.hex(), header=header)
+        fields = {"X-Exchange": str(number), "X-Worker": str(os.getpid()), **({"Cookie": header} if header else {})}
+        site.request("GET", exchange.path, headers=fields)
         with site.getresponse() as answer:
             lines = answer.headers.get_all("Set-Cookie")
-            if answer.status != 200:
-                note(number, wrong=header)
         # (where the connection is lost it may be put or not)
         with contextlib.suppress(redis.ConnectionError):
-            ends, times = timed(shared.receive, exchange.url, lines, exchange.now)
-            note(number, ends=ends, times=times)
-
-
-def plants():
-    """Faults of a fleet, each as what stands in the place of a name."""
-    from fonnalich import fleet
-    is_put, text = fleet.Fleet._is_put, fleet._text
-    return {
-        "blind to versions": (fleet.RedisStore, "PUT", "redis.call('SET', KEYS[1], ARGV[2]) return 1"),
-        "told of a put that wasn't": (fleet.Fleet, "_is_put", lambda *words: is_put(*words) or True),
-        "without what no header has": (fleet, "_text", lambda client: text(client).replace(b"; HttpOnly", b"")),
-    }
+            note(number, ends=shared.receive(exchange.url, lines, exchange.now))
 
 
 # ---- the one client
@@ -172,37 +138,18 @@ class Judge:
         self.place_of = {number_of(version): i for i, (_, version) in enumerate(order)}
         # The numbers and headers that were read at each place, and what was told of each exchange's lines.
         self.headers, self.ends = defaultdict(list), {}
-        # When a call began or ended, which site it was of, and the place that it read or put.
-        self.moments = []
         for each in notes:
             self.follow(each)
-        self.look_back()
         self.count(exchanges - lost)
         self.replay()
 
     def follow(self, notes):
         for note in notes:
             number = note["number"]
-            site, place = Exchange(number, self.hosts).site, self.place_of.get(number, -1)
             if "header" in note:
-                place = self.read_at(number, bytes.fromhex(note["version"]))
-                self.headers[place].append((number, note["header"]))
-                self.moments.append((note["times"][0], 0, site, place, number))
-            elif "wrong" in note:
-                self.wrong.append(f"the site refused the header of {number}: {note['wrong']!r}")
-                continue
+                self.headers[self.read_at(number, bytes.fromhex(note["version"]))].append((number, note["header"]))
             else:
                 self.ends[number] = note["ends"]
-            self.moments.append((note["times"][1], 1, site, place, number))
-
-    def look_back(self):
-        """Looks whether each header is of what was put or read before it was asked for. All workers have one clock."""
-        last = {}
-        for _, has_ended, site, place, number in sorted(self.moments):
-            if has_ended:
-                last[site] = max(last.get(site, -1), place)
-            elif place < last.get(site, -1):
-                self.wrong.append(f"{number} read what was there before")
 
     def read_at(self, number, version):
         """The place of the put that an exchange read, or -1 where it read that there is none."""

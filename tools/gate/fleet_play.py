@@ -7,8 +7,6 @@ import signal
 import sys
 import tempfile
 import time
-from contextlib import nullcontext
-from unittest import mock
 
 from . import fleet, servers
 from .bounded import patience
@@ -78,10 +76,11 @@ class Play:
         """Looks what is wrong, how many exchanges were put, and in how many tries one came behind another one.
 
         A worker that is killed may not be told of one exchange, and each of them of one where Redis is."""
-        order, texts = [], {}
-        for key, value in self.redis.puts():
-            order.append((key, value[:16]))
-            texts[key] = value[16:]
+        import redis
+        with redis.Redis(port=self.redis.port) as asked:
+            puts = asked.lrange("puts", 0, -1)
+        pairs = [(key.decode(), value) for key, value in zip(puts[::2], puts[1::2])]
+        order, texts = [(key, value[:16]) for key, value in pairs], {key: value[16:] for key, value in pairs}
         lost = self.killed + WORKERS * self.restarts
         self.wrong = fleet.Judge(order, texts, map(notes_of, self.logs), self.exchanges, self.hosts, lost).wrong
         self.puts, self.conflicts = len(order), sum(fleet.stamp_of(it)[1] - 1 for _, it in order)
@@ -119,13 +118,12 @@ def drawn_ends(exchanges, workers):
     return dict(zip(numbers, ["redis", *["worker"] * workers]))
 
 
-def played(exchanges, hosts, ends=None, plant=None):
-    """A play that is over; its workers may have a fault."""
+def played(exchanges, hosts, ends):
+    """A play that is over."""
     with tempfile.TemporaryDirectory(prefix="fleet-") as room:
-        play = Play(room, exchanges, hosts, ends or {})
+        play = Play(room, exchanges, hosts, ends)
         try:
-            with mock.patch.object(*plant) if plant else nullcontext():
-                play.run()
+            play.run()
             play.judge()
             return play
         finally:

@@ -6,7 +6,7 @@ import socket
 import subprocess
 import sys
 
-from .bounded import patience, run
+from .bounded import patience
 from .compiler import alone
 from .kit import TOP
 
@@ -47,12 +47,6 @@ def is_listening(port):
     """Whether something listens on a port of loopback."""
     with socket.socket() as asked:
         return asked.connect_ex(("127.0.0.1", port)) == 0
-
-
-def tested(words, seconds, folder):
-    """How a command ended that uses the library in a folder, and what it wrote."""
-    status, out, err = run(words, seconds, cwd=folder, env=environment())
-    return status, (out + err).decode(errors="replace")
 
 
 def environment():

@@ -1,5 +1,4 @@
 """Servers of Redis and of PostgreSQL in a folder of their own, for tests."""
-import contextlib
 import glob
 import os
 import pwd
@@ -27,7 +26,7 @@ class Redis:
     def __init__(self, folder):
         self.held = held_port()
         self.port = self.held.getsockname()[1]
-        self.folder, self.process = folder, None
+        self.process = None
         self.words = ["redis-server", "--port", str(self.port), "--bind", "127.0.0.1", "--dir", folder, "--save", "",
                       "--appendonly", "yes", "--appendfsync", "always", "--auto-aof-rewrite-percentage", "0"]
 
@@ -47,26 +46,6 @@ class Redis:
     def kill(self):
         self.process.kill()
         self.process.wait()
-
-    def puts(self):
-        """The keys and values that were put, in their order, as its file has them."""
-        for path in sorted(glob.glob(f"{self.folder}/appendonlydir/*.incr.aof")):
-            with open(path, "rb") as file:
-                for words in iter(lambda file=file: command(file), None):
-                    if words[0].upper() == b"SET":
-                        yield words[1].decode(), words[2]
-
-
-def command(file):
-    """The words of the next command of an append-only file; None at its end, or where its last one was cut off."""
-    count = file.readline()
-    if count[:1] != b"*":
-        return None
-    words = []
-    for _ in range(int(count[1:])):
-        length = int(file.readline()[1:] or 0)
-        words.append(file.read(length + 2)[:-2])
-    return words if all(words) else None
 
 
 class Postgres:
@@ -91,9 +70,8 @@ class Postgres:
         """What isn't there, in words, or nothing."""
         if not cls.program("initdb") or not cls.program("postgres"):
             return "initdb isn't there"
-        with contextlib.suppress(KeyError):
-            return "" if os.geteuid() or pwd.getpwnam("postgres") else ""
-        return "no user is called postgres, and it isn't run by root"
+        is_known = os.geteuid() or "postgres" in [it.pw_name for it in pwd.getpwall()]
+        return "" if is_known else "no user is called postgres, and it isn't run by root"
 
     def start(self):
         words = [self.program("initdb"), "--auth=trust", "--username=test", "--no-sync", "-D", self.data]

@@ -128,8 +128,8 @@ def listed(command):
 
 def run_one(command, name, room):
     with tempfile.TemporaryDirectory(dir=room) as folder:
-        status, out, told = bounded.run([*command, name], SECONDS, cwd=folder)
-    return status == 0, (out + told).decode(errors="replace")
+        status, told = bounded.told([*command, name], SECONDS, cwd=folder)
+    return status == 0, told
 
 
 def command_of(path):
