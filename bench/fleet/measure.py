@@ -16,7 +16,7 @@ TOP = os.path.join(os.path.dirname(os.path.abspath(__file__)), "../..")
 sys.path[:0] = [f"{TOP}/bindings/python", f"{TOP}/tools"]
 
 from gate import servers
-from gate.fleet_play import forked
+from gate.fleet import forked
 
 NOW = 1700000000
 # Exchanges of each worker, hosts, and the cookies that a host sets.

@@ -1,4 +1,4 @@
-"""The parts of a play of a fleet: what its exchanges are, its site, its workers, Redis, and the one client beside them.
+"""A play of a fleet: its exchanges, its site, its workers, some of which end, as Redis does, and the one client beside.
 
 An exchange has a number, by which the site draws its lines. So what a fleet did is known from the order in which Redis
 was given its shards, which a list there tells, and from what the workers wrote down of each exchange.
@@ -6,22 +6,31 @@ was given its shards, which a list there tells, and from what the workers wrote 
 import contextlib
 import http.client
 import json
+import multiprocessing
 import os
 import random
 import re
 import signal
 import struct
+import sys
+import tempfile
 import threading
 import time
 from collections import defaultdict
 
-from .site import Handler
+from . import servers
+from .bounded import patience
+from .kit import read
+from .site import Handler, Quiet
 
+WORKERS = 8
+# Of a play of a thousand exchanges, in seconds on a calm machine.
+SECONDS = 10
 LIST, NOW = "test\nco.test\n", 1700000000
 PATHS = ("/", "/p", "/p/q")
 NAMES = ("a", "b", "c")
-# A row of a saved text, and the host of its domain.
-ROW = re.compile(rb'(^    \(\n.*?^        domain: \w+\("([^"]*)"\),\n.*?^    \),\n)', re.M | re.S)
+# A row of a saved text.
+ROW = re.compile(rb"^    \(\n.*?^    \),\n", re.M | re.S)
 
 
 # ---- exchanges
@@ -129,18 +138,18 @@ def work(mine, hosts, ports, log):
 class Judge:
     """Tells what is wrong with a play, by one client that takes its exchanges in the order in which they were put.
 
-    `order` has the key and the version of each put, `texts` the last text of each key, and `notes` those of each worker
-    in their order. All of the exchanges have to be told of but for `lost` ones. What is wrong stands in `wrong`, in
-    words."""
+    `puts` has the key and the value of each put, and `notes` those of each worker in their order. So many exchanges have
+    to be told of at `least`. What is wrong stands in `wrong`, in words."""
 
-    def __init__(self, order, texts, notes, exchanges, hosts, lost):
-        self.order, self.texts, self.hosts, self.wrong = order, texts, hosts, []
-        self.place_of = {number_of(version): i for i, (_, version) in enumerate(order)}
+    def __init__(self, puts, notes, hosts, least):
+        self.versions, self.texts = [value[:16] for _, value in puts], {key: value[16:] for key, value in puts}
+        self.hosts, self.wrong = hosts, []
+        self.place_of = {number_of(version): i for i, version in enumerate(self.versions)}
         # The numbers and headers that were read at each place, and what was told of each exchange's lines.
         self.headers, self.ends = defaultdict(list), {}
         for each in notes:
             self.follow(each)
-        self.count(exchanges - lost)
+        self.count(least)
         self.replay()
 
     def follow(self, notes):
@@ -154,14 +163,14 @@ class Judge:
     def read_at(self, number, version):
         """The place of the put that an exchange read, or -1 where it read that there is none."""
         place = self.place_of.get(number_of(version), -1) if version else -1
-        if version and (place < 0 or self.order[place][1] != version):
+        if version and (place < 0 or self.versions[place] != version):
             self.wrong.append(f"{number} read what was never put")
         return place
 
     def count(self, least):
         """Looks whether each exchange was put once, if it was told that it is, and whether so many were."""
-        if len(self.place_of) < len(self.order):
-            self.wrong.append(f"{len(self.order) - len(self.place_of)} were put twice")
+        if len(self.place_of) < len(self.versions):
+            self.wrong.append(f"{len(self.versions) - len(self.place_of)} were put twice")
         self.wrong += [f"{it} was told to be put, and isn't" for it in sorted(self.ends.keys() - self.place_of.keys())]
         if len(self.ends) < least:
             self.wrong.append(f"{len(self.ends)} were told to be put, and not {least}")
@@ -171,7 +180,7 @@ class Judge:
         from fonnalich import Client
         with Client(LIST) as client:
             self.compare(client, -1)
-            for place, (_, version) in enumerate(self.order):
+            for place, version in enumerate(self.versions):
                 exchange = Exchange(number_of(version), self.hosts)
                 ends = client.receive(exchange.url, exchange.lines, exchange.now)
                 if self.ends.get(exchange.number, ends) != ends:
@@ -180,15 +189,11 @@ class Judge:
             self.compare_texts(client)
 
     def compare_texts(self, client):
-        """Looks whether the last text of each shard has the client's rows of that shard, in their order."""
-        from fonnalich import fleet, shard
-        rows = defaultdict(bytes)
-        for row, host in ROW.findall(fleet._text(client)):
-            rows[shard(LIST, host)] += row
-        texts = {key.rpartition(":")[2]: text for key, text in self.texts.items()}
-        for name in sorted(rows.keys() | texts.keys()):
-            if texts.get(name) != (alone := b"[\n%s]\n" % rows[name]):
-                self.wrong.append(f"{name} is {texts.get(name)!r}, of one client {alone!r}")
+        """Looks whether the last texts of the shards have the client's rows, each once."""
+        from fonnalich import fleet
+        shards, alone = (sorted(ROW.findall(it)) for it in (b"".join(self.texts.values()), fleet._text(client)))
+        if shards != alone:
+            self.wrong.append(f"the shards' rows are {shards!r}, of one client {alone!r}")
 
     def compare(self, client, place):
         for number, header in self.headers[place]:
@@ -198,11 +203,120 @@ class Judge:
                 self.wrong.append(f"{number} had {header!r}, one client {alone!r}")
 
 
-def stamp_of(version):
+def stamp_of(value):
     """The number of the exchange that put this, and how often it was tried until then."""
-    number, tries = struct.unpack(">QQ", version)
+    number, tries = struct.unpack(">QQ", value[:16])
     return number, tries & 0xFFFFFFFF
 
 
 def number_of(version):
     return stamp_of(version)[0]
+
+
+# ---- the play
+
+class Play:
+    """A play: its Redis, its site and its workers, each with the exchanges that it has to make.
+
+    `ends` says what ends, and at which exchange: a worker, or Redis."""
+
+    def __init__(self, room, exchanges, hosts, ends):
+        self.room, self.exchanges, self.hosts = room, exchanges, hosts
+        self.redis, self.pids, self.logs, self.strikes = servers.Redis(room), {}, [], multiprocessing.Event()
+        self.killed, self.restarts, self.failed, self.puts, self.conflicts = 0, 0, [], 0, 0
+        server = Quiet(("127.0.0.1", 0), Site)
+        server.hosts, server.ends, server.strikes, self.port = hosts, ends, self.strikes, server.server_port
+        self.site = forked(server.serve_forever)
+        server.socket.close()
+        self.redis.start()
+
+    def begin(self, mine):
+        """Has a worker make these exchanges."""
+        path = f"{self.room}/{len(self.logs)}.log"
+        log = os.open(path, os.O_WRONLY | os.O_CREAT | os.O_APPEND, 0o600)
+        self.logs.append(path)
+        self.pids[forked(lambda: work(mine, self.hosts, (self.redis.port, self.port), log))] = mine, path
+        os.close(log)
+
+    def run(self):
+        """Has all workers make their exchanges."""
+        for number in range(WORKERS):
+            self.begin(range(number, self.exchanges, WORKERS))
+        began = time.monotonic()
+        while self.pids:
+            time.sleep(0.01)
+            if time.monotonic() - began > patience(SECONDS):
+                raise TimeoutError("the workers have not ended")
+            self.reap()
+            if self.strikes.is_set():
+                self.strikes.clear()
+                self.redis.kill()
+                self.redis.start()
+                self.restarts += 1
+
+    def reap(self):
+        """Looks which workers have ended, and has another one go on behind one that was killed."""
+        for pid, (mine, path) in [*self.pids.items()]:
+            ended, status = os.waitpid(pid, os.WNOHANG)
+            if not ended:
+                continue
+            del self.pids[pid]
+            status = os.waitstatus_to_exitcode(status)
+            if status == -signal.SIGKILL:
+                self.killed += 1
+                notes = notes_of(path)
+                self.begin(range(notes[-1]["number"] + WORKERS if notes else mine.start, mine.stop, WORKERS))
+            elif status:
+                self.failed.append(f"a worker ended by {status}")
+
+    def judge(self):
+        """Looks what is wrong, how many exchanges were put, and in how many tries one came behind another one.
+
+        A worker that is killed may not be told of one exchange, and each of them of one where Redis is."""
+        import redis
+        with redis.Redis(port=self.redis.port) as asked:
+            puts = asked.lrange("puts", 0, -1)
+        puts = [(key, value) for key, value in zip(puts[::2], puts[1::2])]
+        lost = self.killed + WORKERS * self.restarts
+        self.wrong = Judge(puts, map(notes_of, self.logs), self.hosts, self.exchanges - lost).wrong
+        self.puts, self.conflicts = len(puts), sum(stamp_of(it)[1] - 1 for _, it in puts)
+
+    def end(self):
+        for pid in [*self.pids, self.site]:
+            os.kill(pid, signal.SIGKILL)
+            os.waitpid(pid, 0)
+        self.redis.kill()
+
+
+def notes_of(path):
+    """What a worker wrote down. (The last line of one that was killed may be cut off.)"""
+    return [json.loads(line) for line in read(path).splitlines(True) if line.endswith(b"\n")]
+
+
+def forked(call):
+    """The process of a child that makes this call, and ends."""
+    pid = os.fork()
+    if pid:
+        return pid
+    status = 1
+    try:
+        call()
+        status = 0
+    except BaseException:
+        sys.excepthook(*sys.exc_info())
+    finally:
+        os._exit(status)
+
+
+def played(exchanges, hosts, killed):
+    """A play that is over, in which so many workers are killed, and Redis, none so late that all have ended before."""
+    numbers = random.sample(range(exchanges * 3 // 4), killed + 1)
+    ends = dict(zip(numbers, ["redis", *["worker"] * killed]))
+    with tempfile.TemporaryDirectory(prefix="fleet-") as room:
+        play = Play(room, exchanges, hosts, ends)
+        try:
+            play.run()
+            play.judge()
+            return play
+        finally:
+            play.end()

@@ -6,7 +6,7 @@ import socket
 import subprocess
 import sys
 
-from .bounded import patience
+from .bounded import run
 from .compiler import alone
 from .kit import TOP
 
@@ -16,15 +16,11 @@ SECONDS = 60
 
 def python_with(*modules):
     """A Python that has these modules: this one, the PATH's or the distribution's. None where none has."""
+    code = "\n".join(f"import {it}" for it in modules)
     for it in dict.fromkeys([sys.executable, shutil.which("python3"), "/usr/bin/python3"]):
-        if it and os.path.exists(it) and has(it, modules):
+        if it and os.path.exists(it) and run([it, "-c", code], SECONDS)[0] == 0:
             return it
     return None
-
-
-def has(python, modules):
-    how = {"stdout": subprocess.DEVNULL, "stderr": subprocess.DEVNULL, "timeout": patience(SECONDS), "check": False}
-    return not modules or subprocess.run([python, "-c", f"import {', '.join(modules)}"], **how).returncode == 0
 
 
 def missing(modules, commands):

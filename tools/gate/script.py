@@ -18,7 +18,8 @@ def words(doc):
 
 
 def unescaped(text):
-    """The bytes of a row, in which \\t, \\r, \\n, \\s, \\\\ and \\xFF stand for others, and \\0 for none."""
+    """The bytes of a row: \\t, \\r, \\n, \\s, \\\\ and \\xFF stand for others, \\0 for none, and <x*9> for many."""
+    text = re.sub(rb"<x\*(\d+)>", lambda it: b"x" * int(it[1]), text)
     return re.sub(rb"\\(?:x([0-9a-f]{2})|(.))", lambda it: bytes([int(it[1], 16)]) if it[1] else ESCAPES[it[2]], text)
 
 
