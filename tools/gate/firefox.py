@@ -1,6 +1,7 @@
 """Files of cookies as Firefox keeps them, made by Python's own SQLite."""
 import contextlib
 import os
+import shutil
 import sqlite3
 import tempfile
 
@@ -36,5 +37,4 @@ def put(path, rows, version=16, page=32768, log=True, table=TABLE):
         # (what a close would merge)
         for ending in ("", "-wal"):
             if os.path.isfile(f"{room}/a{ending}"):
-                with open(f"{room}/a{ending}", "rb") as it, open(f"{path}{ending}", "xb") as to:
-                    to.write(it.read())
+                shutil.copyfile(f"{room}/a{ending}", f"{path}{ending}")

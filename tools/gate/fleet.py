@@ -46,8 +46,8 @@ class Exchange:
         self.path, self.now = self.draw.choice(PATHS), NOW + number // 4
         self.url = f"http://{self.host}{self.path}"
         # The lines of its answer. The first sets a cookie anew at each exchange, so each changes the shard.
-        self.lines = [self.line("n", "/", False, self.draw.choice([None, 100000]))]
-        self.lines += [self.drawn() for _ in range(self.draw.randrange(4))]
+        first = self.line("n", "/", False, self.draw.choice([None, 100000]))
+        self.lines = [first, *(self.drawn() for _ in range(self.draw.randrange(4)))]
 
     def drawn(self):
         age = self.draw.choice([None, None, -1, 0, 3, 50, 100000])
@@ -138,8 +138,8 @@ def work(mine, hosts, ports, log):
 class Judge:
     """Tells what is wrong with a play, by one client that takes its exchanges in the order in which they were put.
 
-    `puts` has the key and the value of each put, and `notes` those of each worker in their order. So many exchanges have
-    to be told of at `least`. What is wrong stands in `wrong`, in words."""
+    `puts` has the key and the value of each put, and `notes` those of each worker in their order. At `least` so many
+    exchanges have to be told of. What is wrong stands in `wrong`, in words."""
 
     def __init__(self, puts, notes, hosts, least):
         self.versions, self.texts = [value[:16] for _, value in puts], {key: value[16:] for key, value in puts}

@@ -1,5 +1,4 @@
-"""What the scripts need that run the library in other programs: the library, a Python with a framework, and commands.
-"""
+"""What the scripts need that run the library in other programs: it, a Python with a framework, and commands."""
 import os
 import shutil
 import socket

@@ -30,19 +30,17 @@ Request = namedtuple("Request", "method host target fields cookies body")
 
 
 class Site(Handler):
-    """Answers each request with the next of what is to be said to its visit, and keeps the cookies that it has, and the
-    whole of it.
+    """Answers each request with the next of what is to be said to its visit, and keeps it.
 
     A visit is what the field X-Visit names; one without it is that of an example. What is said are lines to set, a
     Location or None, and a status line's words where they aren't the usual ones."""
 
-    said, heard, had = {}, defaultdict(list), defaultdict(list)
+    said, had = {}, defaultdict(list)
 
     def do_GET(self):
         visit = self.headers["X-Visit"]
         host, body = self.headers["Host"].lower(), self.rfile.read(int(self.headers["Content-Length"] or 0))
         cookies = b"; ".join(it.encode("latin-1") for it in self.headers.get_all("Cookie", []))
-        Site.heard[visit].append(cookies)
         Site.had[visit].append(Request(self.command, host, self.path, self.headers, cookies, body))
         nothing = ([] if visit else [EXAMPLE.encode()], None)
         lines, location, *status = Site.said[visit].pop(0) if Site.said.get(visit) else nothing
