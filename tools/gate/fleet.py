@@ -190,8 +190,9 @@ class Judge:
 
     def compare_texts(self, client):
         """Looks whether the last texts of the shards have the client's rows, each once."""
-        from fonnalich import fleet
-        shards, alone = (sorted(ROW.findall(it)) for it in (b"".join(self.texts.values()), fleet._text(client)))
+        from fonnalich.fleet import _SAVE_ALL
+        whole = client._call(_SAVE_ALL, 0, b"", b"")
+        shards, alone = (sorted(ROW.findall(it)) for it in (b"".join(self.texts.values()), whole))
         if shards != alone:
             self.wrong.append(f"the shards' rows are {shards!r}, of one client {alone!r}")
 
