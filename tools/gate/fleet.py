@@ -277,7 +277,7 @@ class Play:
         import redis
         with redis.Redis(port=self.redis.port) as asked:
             puts = asked.lrange("puts", 0, -1)
-        puts = [(key, value) for key, value in zip(puts[::2], puts[1::2])]
+        puts = [*zip(puts[::2], puts[1::2])]
         lost = self.killed + WORKERS * self.restarts
         self.wrong = Judge(puts, map(notes_of, self.logs), self.hosts, self.exchanges - lost).wrong
         self.puts, self.conflicts = len(puts), sum(stamp_of(it)[1] - 1 for _, it in puts)
