@@ -1,11 +1,12 @@
 """Checks of many wrong bodies at once, and what each says of them."""
+import glob
 import os
 import re
 import shutil
 import subprocess
 import tempfile
 
-from gate.kit import guarded
+from gate.kit import guarded, text_of, written
 
 HOLE = """use Rattle.{crate}.proofs.{module}.Statement as stated
 
@@ -44,12 +45,9 @@ def place_of(goal):
 
 def goals_in(folder, name, edit):
     """The places of the goals that the files of this name answer, of an edit's function."""
-    found = set()
-    for at, _, names in os.walk(folder):
-        if name in names and edit.function.owns_file(f"proofs{at[len(folder) :]}/{name}"):
-            with open(f"{at}/{name}", encoding="utf-8") as file:
-                found |= {place_of(it) for it in ANSWERED.findall(file.read())}
-    return found
+    paths = glob.glob(f"**/{name}", root_dir=folder, recursive=True)
+    texts = [text_of(f"{folder}/{it}") for it in paths if edit.function.owns_file(f"proofs/{it}")]
+    return {place_of(it) for text in texts for it in ANSWERED.findall(text)}
 
 
 class Bundle:
@@ -59,18 +57,15 @@ class Bundle:
     are proved from what the contracts of their callees say. An edit outside bodies has to compile with all bodies.
     """
 
-    def __init__(self, rt, crate, functions, texts, edits):
-        self.rt, self.crate, self.functions, self.texts, self.edits = rt, crate, functions, texts, edits
+    def __init__(self, trial, edits):
+        self.trial, self.crate, self.functions, self.edits = trial, trial.crate, trial.functions, edits
         self.asked = {it.function.name: it.function for it in edits}
         self.told, self.opened, self.errors = {}, {}, []
         self.is_whole, self.output = False, ""
 
-    def run(self, kept, is_edited=True):
+    def run(self, is_edited=True):
         """Makes the check. Afterwards `is_whole` says whether it came to its end."""
-        with tempfile.TemporaryDirectory(prefix="wrong-bodies-") as room:
-            self.fill(room, is_edited)
-            words = [it for name in self.asked for it in ("--only", f"{self.crate.name}::{name}")]
-            ran = self.check(room, kept, "--allow-holes", *words)
+        ran = self.check(is_edited, "--only", "--allow-holes")
         self.output = ran.stdout
         self.read()
         is_stray = any(not any(self.is_of(it, file) for it in self.edits) for file, _ in self.errors)
@@ -78,46 +73,44 @@ class Bundle:
         self.is_whole = ran.returncode in (0, 1) and last.startswith("only=") and not is_stray
         return self
 
-    def standing(self, kept):
+    def standing(self):
         """The places of the goals of each edit's function as it stands, by the edit's label."""
-        with tempfile.TemporaryDirectory(prefix="wrong-bodies-") as room:
-            self.fill(room, is_edited=False)
-            words = [it for name in self.asked for it in ("--start", f"{self.crate.name}::{name}")]
-            self.check(room, kept, "--generated", f"{room}/goals", *words)
-            folder = f"{room}/goals/Rattle-{self.crate.name}-proofs"
-            return {it.label: goals_in(folder, "AnswersOffered.antt", it) for it in self.edits}
+        goals = f"{self.trial.room}/goals"
+        self.check(False, "--start", "--generated", goals)
+        folder = f"{goals}/Rattle-{self.crate.name}-proofs"
+        return {it.label: goals_in(folder, "AnswersOffered.antt", it) for it in self.edits}
 
-    def check(self, room, kept, *words):
-        words = [*self.crate.words(["--jobs", "1"], keeps=False), "--incremental", kept, *words]
-        return subprocess.run([*guarded(self.rt.rtlib), self.rt.rtlib.RATTLE, "check", *words], cwd=room, text=True,
-                              errors="replace", stdin=subprocess.DEVNULL, stdout=subprocess.PIPE,
-                              stderr=subprocess.STDOUT)
+    def check(self, is_edited, option, *words):
+        """Has a copy checked, with an option for each function that is asked for."""
+        rtlib = self.trial.rt.rtlib
+        words = [*self.crate.words(["--jobs", "1"], keeps=False), "--incremental", f"{self.trial.room}/kept", *words]
+        words += [it for name in self.asked for it in (option, f"{self.crate.name}::{name}")]
+        with tempfile.TemporaryDirectory(prefix="wrong-bodies-") as room:
+            self.fill(room, is_edited)
+            return subprocess.run([*guarded(rtlib), rtlib.RATTLE, "check", *words], cwd=room, text=True,
+                                  errors="replace", stdin=subprocess.DEVNULL, stdout=subprocess.PIPE,
+                                  stderr=subprocess.STDOUT)
 
     def fill(self, room, is_edited):
-        for part in self.rt.rtlib.PARTS:
+        for part in self.trial.rt.rtlib.PARTS:
             if os.path.isdir(f"{self.crate.folder}/{part}"):
                 shutil.copytree(f"{self.crate.folder}/{part}", f"{room}/{part}")
-        files = {file: text.split("\n") for file, text in self.texts.items()}
+        files = {file: text.split("\n") for file, text in self.trial.texts.items()}
         for edit in self.edits if is_edited else ():
             edit.put(files)
         keeps_bodies = is_edited and any(it.named for it in self.edits)
         for it in self.functions:
             if it.name not in self.asked and not it.cycle:
-                self.put_hole(f"{room}/{it.folder}", it)
+                names = [*it.module, *it.inner]
+                shutil.rmtree(f"{room}/{it.folder}", ignore_errors=True)
+                hole = HOLE.format(crate=self.crate.name, module=".".join(names), name=names[-1])
+                written(f"{room}/{it.folder}/Proof.antt", hole)
                 # (each line keeps its number)
                 if not keeps_bodies and it.last - it.opens > 1:
                     inside = it.last - it.opens - 1
                     files[it.file][it.opens + 1 : it.last] = ["unreachable!()"] + [""] * (inside - 1)
         for file, lines in files.items():
-            with open(f"{room}/{file}", "w", encoding="utf-8") as to:
-                to.write("\n".join(lines))
-
-    def put_hole(self, folder, function):
-        shutil.rmtree(folder, ignore_errors=True)
-        os.makedirs(folder)
-        names = [*function.module, *function.inner]
-        with open(f"{folder}/Proof.antt", "w", encoding="utf-8") as to:
-            to.write(HOLE.format(crate=self.crate.name, module=".".join(names), name=names[-1]))
+            written(f"{room}/{file}", "\n".join(lines))
 
     def read(self):
         """Takes from the output what is said of each function: its line, the open goals above it, and errors."""

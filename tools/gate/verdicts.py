@@ -3,10 +3,8 @@ import contextlib
 import glob
 import hashlib
 import os
-import tempfile
-from pathlib import Path
 
-TOOLS = Path(__file__).resolve().parent.parent
+from gate.kit import TOP, read, text_of, written
 
 
 class Verdicts:
@@ -17,21 +15,17 @@ class Verdicts:
     """
 
     def __init__(self, folder, crate):
-        tools = [TOOLS / "wrong-bodies", *map(Path, sorted(glob.glob(f"{TOOLS}/gate/*.py")))] if folder else []
-        self.folder, self.sums = folder, [crate.stamp() if folder else "", *(it.read_bytes() for it in tools)]
+        tools = [f"{TOP}/tools/wrong-bodies", *sorted(glob.glob(f"{TOP}/tools/gate/*.py"))]
+        self.folder, self.sums = folder, [crate.stamp(), *map(read, tools)] if folder else None
 
     def path(self, edit):
         return f"{self.folder}/{hashlib.sha256(repr((self.sums, edit.label, edit.text)).encode()).hexdigest()}"
 
     def told(self, edit):
         """What was told of the same wrong body when it was refused, or nothing."""
-        with contextlib.suppress(OSError, ValueError):
-            return Path(self.path(edit)).read_text(encoding="utf-8")
-        return ""
+        return text_of(self.path(edit)) if self.folder and os.path.isfile(self.path(edit)) else ""
 
     def keep(self, edit, told):
         with contextlib.suppress(OSError):
-            os.makedirs(self.folder or "", exist_ok=True)
-            with tempfile.NamedTemporaryFile("w", dir=self.folder, delete=False, encoding="utf-8") as file:
-                file.write(told)
-            os.replace(file.name, self.path(edit))
+            if self.folder:
+                os.replace(written(f"{self.path(edit)}.{os.getpid()}", told), self.path(edit))
