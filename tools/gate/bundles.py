@@ -22,9 +22,6 @@ ANSWERED = re.compile(r"^pub (\S+) :\s+goal\.", re.M)
 OF_A_CALLEE = re.compile(r"(?!returns)\S*-requires(?:-|$)")
 ERROR = re.compile(r"^(?:\./)?((?:src|specs|proofs)/\S+?):\d+:\d+: error: (.*)$")
 ITEM = re.compile(r"^(?:struct|enum|union|trait|impl) \S+: ")
-# What a verdict rests on, as a call or as a name of the proofs.
-CALLS = re.compile(r"`[\w-]+::([^`]+)`")
-STANDS = re.compile(r"`Rattle\.[\w-]+\.proofs\.([^`]+)`")
 # The words by which antt says that a proof file names what is not there, and that this is a goal.
 GONE = re.compile(r"has no field|is not in scope|has no `")
 GOAL_GONE = re.compile(r"Goals` has no `")
@@ -101,9 +98,8 @@ class Bundle:
         keeps_bodies = is_edited and any(it.named for it in self.edits)
         for it in self.functions:
             if it.name not in self.asked and not it.cycle:
-                names = [*it.module, *it.inner]
                 shutil.rmtree(f"{room}/{it.folder}", ignore_errors=True)
-                hole = HOLE.format(crate=self.crate.name, module=".".join(names), name=names[-1])
+                hole = HOLE.format(crate=self.crate.name, module=".".join(it.names), name=it.names[-1])
                 written(f"{room}/{it.folder}/Proof.antt", hole)
                 # (each line keeps its number)
                 if not keeps_bodies and it.last - it.opens > 1:
@@ -138,26 +134,25 @@ class Bundle:
             return BROKEN, f"its check breaks off: {self.first_error()}", ()
         own = {name: told for name, told in self.told.items() if edit.function.owns(name)}
         failed = [name for name, told in own.items() if told.startswith(FAILS)]
-        errors = [text for file, text in self.errors if self.is_of(edit, file) and not UNSEEN.match(text)]
-        gone = [it for it in errors if GONE.search(it)]
-        verdict = self.judge_goals(edit, failed, errors) if failed else None
+        errors = [it for it in self.errors if self.is_of(edit, it[0]) and not UNSEEN.match(it[1])]
+        gone = [it for it in errors if GONE.search(it[1])]
+        verdict = self.judge_goals(edit, failed, errors, gone) if failed else None
         if verdict:
             return verdict
         if failed and gone:
-            return NAME, f"{', '.join(failed)}: {gone[0][:160]}", ()
-        if self.is_behind(edit, " ".join(own[name] for name in failed)):
+            return NAME, f"{', '.join(failed)}: {gone[0][1][:160]}", ()
+        if failed and len(self.edits) > 1:
             return AGAIN, "", ()
         if edit.function.name in own and all(map(PASSES.match, own.values())):
             return PASSED, ", ".join(own), ()
         return BROKEN, f"its check tells nothing of {edit.function.name}", ()
 
-    def judge_goals(self, edit, failed, errors):
+    def judge_goals(self, edit, failed, errors, gone):
         """What the goals of these functions say that are open or whose answer is refused, or None where none is."""
-        gone = [it for it in errors if GONE.search(it)]
         # (a goal can be open only because its answer, or the loop's invariant, went with a name)
-        is_blind = any(map(GOAL_GONE.search, gone)) or self.lacks_invariants(edit)
+        is_blind = any(GOAL_GONE.search(text) or file.endswith("/Invariants.antt") for file, text in gone)
         opened = [] if is_blind else [it for name in failed for it in self.opened[name]]
-        answers = [ANSWER.match(it) for it in errors if it not in gone]
+        answers = [ANSWER.match(it[1]) for it in errors if it not in gone]
         refused = [it[1] if it else "" for it in answers]
         own = {place_of(it) for it in opened if not OF_A_CALLEE.match(it)}
         is_new = edit.makes_a_branch() and not own & goals_in(f"{self.crate.folder}/proofs", "Answers.antt", edit)
@@ -166,16 +161,6 @@ class Bundle:
         if own:
             return BRANCH, ", ".join(failed), own
         return (CALLEE, f"{', '.join(failed)}: {', '.join([*opened, *refused])}", ()) if opened or refused else None
-
-    def lacks_invariants(self, edit):
-        """Whether a name is gone from the invariants of the function's loops."""
-        return any(file.endswith("/Invariants.antt") and self.is_of(edit, file) and GONE.search(text)
-                   for file, text in self.errors)
-
-    def is_behind(self, edit, text):
-        """Whether what is said of the function may rest on another's edit."""
-        named = {*CALLS.findall(text), *(it.replace(".", "::") for it in STANDS.findall(text))}
-        return any(it.is_within(name) for it in self.asked.values() if it.unit != edit.function.unit for name in named)
 
     def first_error(self):
         lines = self.output.rstrip("\n").split("\n")
