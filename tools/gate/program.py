@@ -22,6 +22,9 @@ PARTS = ("src", "specs", "proofs")
 SUFFIXES = f"{TOP}/examples/suffixes.dat"
 SEED = "00" * 32
 BEGIN = "2024-01-01T00:00:00Z"
+# Words with which a program ends with 0, where {} is its store file, or a file that is made of such.
+RUN = {"cookie-run": [SUFFIXES, SEED, "{}", BEGIN],
+       "cookie-jar": ["--now", BEGIN, "--suffixes", SUFFIXES, "--format", "ron", "{}", "list"]}
 # Seconds of a first compile, on four calm cores at 2.5 GHz.
 SECONDS = {"cookie-run": 55, "cookie-jar": 70}
 # Drops what the program doesn't reach, optimises the rest in little time, puts the checks of memory in, and makes code
@@ -44,10 +47,6 @@ case " $* " in *" -o program "*) cp program "KEPT" ;; esac
 
 def crate_of(command):
     return f"{command.replace('-', '_')}_program"
-
-
-def commands_of(crates):
-    return [it for it in NAMES if crate_of(it) in crates]
 
 
 def built(command, top=TOP):
@@ -124,14 +123,6 @@ def ready(command):
     return path if os.access(path, os.X_OK) else None
 
 
-def run_words(command, store):
-    """The words of `rt` that prove and build a program, and run it so that it ends with 0, over a file where it keeps
-    its cookies, or one that is made of such."""
-    words = {"cookie-run": [SUFFIXES, SEED, store, BEGIN],
-             "cookie-jar": ["--now", BEGIN, "--suffixes", SUFFIXES, "--format", "ron", store, "list"]}
-    return ["rt", "run", "--", *words[command]]
-
-
 def build(command):
     """Proves and builds the program anew, and the crates below it, over what their proofs have kept."""
     demand("rt", CC[0])
@@ -144,8 +135,9 @@ def build(command):
     say(f"proving and building {len(crates_to(crate))} crates; {os.path.relpath(log)} tells of each")
     os.makedirs(f"{TOP}/out", exist_ok=True)
     with open(log, "wb") as to, tempfile.TemporaryDirectory() as room:
+        words = ["rt", "run", "--", *(it.format(f"{room}/store.ron") for it in RUN[command])]
         how = {"stdin": subprocess.DEVNULL, "stdout": to, "stderr": to}
-        status = subprocess.run(run_words(command, f"{room}/store.ron"), cwd=f"{TOP}/crates/{crate}", **how).returncode
+        status = subprocess.run(words, cwd=f"{TOP}/crates/{crate}", **how).returncode
     if status or not os.path.isfile(built(command)):
         stop(f"{command} was not built; {os.path.relpath(log)} tells why", 126)
     # (a source that was changed meanwhile is younger)
