@@ -19,7 +19,7 @@ class Function:
             # (a type's own functions stand in its module)
             module = [*homes[0][0]] if len(homes) == 1 and not trait else module
             inner = ["".join([*owner, *trait]) if trait else "+".join(owner), read.name]
-        # Its modules, its type or impl, and its name; these as a check prints them; and the begin of its closures' names.
+        # Its modules, its type or impl, and its name; these as a check prints them; how names of closures in it begin.
         self.names = [*module, *inner]
         self.name, self.closures = "::".join(self.names), "::".join([*module, "fn", *inner, ""])
         # The lines where it begins, where its body opens and where it ends.

@@ -22,9 +22,10 @@ PARTS = ("src", "specs", "proofs")
 SUFFIXES = f"{TOP}/examples/suffixes.dat"
 SEED = "00" * 32
 BEGIN = "2024-01-01T00:00:00Z"
-# Words with which a program ends with 0, where {} is its store file, or a file that is made of such.
-RUN = {"cookie-run": [SUFFIXES, SEED, "{}", BEGIN],
-       "cookie-jar": ["--now", BEGIN, "--suffixes", SUFFIXES, "--format", "ron", "{}", "list"]}
+# Words with which a program ends with 0, over a store file or a jar that isn't there.
+STORE = "store.ron"
+RUN = {"cookie-run": [SUFFIXES, SEED, STORE, BEGIN],
+       "cookie-jar": ["--now", BEGIN, "--suffixes", SUFFIXES, "--format", "ron", STORE, "list"]}
 # Seconds of a first compile, on four calm cores at 2.5 GHz.
 SECONDS = {"cookie-run": 55, "cookie-jar": 70}
 # Drops what the program doesn't reach, optimises the rest in little time, puts the checks of memory in, and makes code
@@ -135,7 +136,7 @@ def build(command):
     say(f"proving and building {len(crates_to(crate))} crates; {os.path.relpath(log)} tells of each")
     os.makedirs(f"{TOP}/out", exist_ok=True)
     with open(log, "wb") as to, tempfile.TemporaryDirectory() as room:
-        words = ["rt", "run", "--", *(it.format(f"{room}/store.ron") for it in RUN[command])]
+        words = ["rt", "run", "--", *(f"{room}/store.ron" if it == STORE else it for it in RUN[command])]
         how = {"stdin": subprocess.DEVNULL, "stdout": to, "stderr": to}
         status = subprocess.run(words, cwd=f"{TOP}/crates/{crate}", **how).returncode
     if status or not os.path.isfile(built(command)):
