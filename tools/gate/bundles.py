@@ -29,10 +29,11 @@ GOAL_GONE = re.compile(r"Goals` has no `")
 UNSEEN = re.compile(r"\d+ declarations? that depends? on .*\b(?:was|were) not checked")
 FAILS = ("not proved", "no proof")
 PASSES = re.compile(r"no holes$|proved$|depends on a hole in ")
-# What a check says of an edit: it is refused, in these ways, or not; others' edits hide it; the check broke off, or
-# tells nothing of its function.
-REFUSED, BRANCH, CALLEE, NAME = "open", "a branch's goal", "a callee's", "a name"
-PASSED, AGAIN, BROKEN = "passed", "again", "broken"
+# What a check says of an edit: it is refused, or others' edits hide it; and what fails: it isn't refused, or by these
+# alone; or the check broke off, or tells nothing of its function.
+REFUSED, AGAIN, PASSED, BROKEN = "refused", "again", "NOT REFUSED", "BAD EDIT"
+CALLEE, NAME = "REFUSED BY WHAT A CALLEE REQUIRES ALONE", "REFUSED BY A NAME ALONE"
+BRANCH = "REFUSED BY A SEARCH IN A NEW BRANCH ALONE"
 
 
 def place_of(goal):
