@@ -1,11 +1,12 @@
 """Checks of many wrong bodies at once, and what each says of them."""
+import glob
 import os
 import re
 import shutil
 import subprocess
 import tempfile
 
-from gate.kit import guarded
+from gate.kit import guarded, text_of, written
 
 HOLE = """use Rattle.{crate}.proofs.{module}.Statement as stated
 
@@ -21,9 +22,6 @@ ANSWERED = re.compile(r"^pub (\S+) :\s+goal\.", re.M)
 OF_A_CALLEE = re.compile(r"(?!returns)\S*-requires(?:-|$)")
 ERROR = re.compile(r"^(?:\./)?((?:src|specs|proofs)/\S+?):\d+:\d+: error: (.*)$")
 ITEM = re.compile(r"^(?:struct|enum|union|trait|impl) \S+: ")
-# What a verdict rests on, as a call or as a name of the proofs.
-CALLS = re.compile(r"`[\w-]+::([^`]+)`")
-STANDS = re.compile(r"`Rattle\.[\w-]+\.proofs\.([^`]+)`")
 # The words by which antt says that a proof file names what is not there, and that this is a goal.
 GONE = re.compile(r"has no field|is not in scope|has no `")
 GOAL_GONE = re.compile(r"Goals` has no `")
@@ -31,10 +29,11 @@ GOAL_GONE = re.compile(r"Goals` has no `")
 UNSEEN = re.compile(r"\d+ declarations? that depends? on .*\b(?:was|were) not checked")
 FAILS = ("not proved", "no proof")
 PASSES = re.compile(r"no holes$|proved$|depends on a hole in ")
-# What a check says of an edit: it is refused, in these ways, or not; others' edits hide it; the check broke off, or
-# tells nothing of its function.
-REFUSED, BRANCH, CALLEE, NAME = "open", "a branch's goal", "a callee's", "a name"
-PASSED, AGAIN, BROKEN = "passed", "again", "broken"
+# What a check says of an edit: it is refused, or others' edits hide it; and what fails: it isn't refused, or by these
+# alone; or the check broke off, or tells nothing of its function.
+REFUSED, AGAIN, PASSED, BROKEN = "refused", "again", "NOT REFUSED", "BAD EDIT"
+CALLEE, NAME = "REFUSED BY WHAT A CALLEE REQUIRES ALONE", "REFUSED BY A NAME ALONE"
+BRANCH = "REFUSED BY A SEARCH IN A NEW BRANCH ALONE"
 
 
 def place_of(goal):
@@ -44,12 +43,9 @@ def place_of(goal):
 
 def goals_in(folder, name, edit):
     """The places of the goals that the files of this name answer, of an edit's function."""
-    found = set()
-    for at, _, names in os.walk(folder):
-        if name in names and edit.function.owns_file(f"proofs{at[len(folder) :]}/{name}"):
-            with open(f"{at}/{name}", encoding="utf-8") as file:
-                found |= {place_of(it) for it in ANSWERED.findall(file.read())}
-    return found
+    paths = glob.glob(f"**/{name}", root_dir=folder, recursive=True)
+    texts = [text_of(f"{folder}/{it}") for it in paths if edit.function.owns_file(f"proofs/{it}")]
+    return {place_of(it) for text in texts for it in ANSWERED.findall(text)}
 
 
 class Bundle:
@@ -59,18 +55,15 @@ class Bundle:
     are proved from what the contracts of their callees say. An edit outside bodies has to compile with all bodies.
     """
 
-    def __init__(self, rt, crate, functions, texts, edits):
-        self.rt, self.crate, self.functions, self.texts, self.edits = rt, crate, functions, texts, edits
+    def __init__(self, trial, edits):
+        self.trial, self.crate, self.functions, self.edits = trial, trial.crate, trial.functions, edits
         self.asked = {it.function.name: it.function for it in edits}
         self.told, self.opened, self.errors = {}, {}, []
         self.is_whole, self.output = False, ""
 
-    def run(self, kept, is_edited=True):
+    def run(self, is_edited=True):
         """Makes the check. Afterwards `is_whole` says whether it came to its end."""
-        with tempfile.TemporaryDirectory(prefix="wrong-bodies-") as room:
-            self.fill(room, is_edited)
-            words = [it for name in self.asked for it in ("--only", f"{self.crate.name}::{name}")]
-            ran = self.check(room, kept, "--allow-holes", *words)
+        ran = self.check(is_edited, "--only", "--allow-holes")
         self.output = ran.stdout
         self.read()
         is_stray = any(not any(self.is_of(it, file) for it in self.edits) for file, _ in self.errors)
@@ -78,46 +71,43 @@ class Bundle:
         self.is_whole = ran.returncode in (0, 1) and last.startswith("only=") and not is_stray
         return self
 
-    def standing(self, kept):
+    def standing(self):
         """The places of the goals of each edit's function as it stands, by the edit's label."""
-        with tempfile.TemporaryDirectory(prefix="wrong-bodies-") as room:
-            self.fill(room, is_edited=False)
-            words = [it for name in self.asked for it in ("--start", f"{self.crate.name}::{name}")]
-            self.check(room, kept, "--generated", f"{room}/goals", *words)
-            folder = f"{room}/goals/Rattle-{self.crate.name}-proofs"
-            return {it.label: goals_in(folder, "AnswersOffered.antt", it) for it in self.edits}
+        goals = f"{self.trial.room}/goals"
+        self.check(False, "--start", "--generated", goals)
+        folder = f"{goals}/Rattle-{self.crate.name}-proofs"
+        return {it.label: goals_in(folder, "AnswersOffered.antt", it) for it in self.edits}
 
-    def check(self, room, kept, *words):
-        words = [*self.crate.words(["--jobs", "1"], keeps=False), "--incremental", kept, *words]
-        return subprocess.run([*guarded(self.rt.rtlib), self.rt.rtlib.RATTLE, "check", *words], cwd=room, text=True,
-                              errors="replace", stdin=subprocess.DEVNULL, stdout=subprocess.PIPE,
-                              stderr=subprocess.STDOUT)
+    def check(self, is_edited, option, *words):
+        """Has a copy checked, with an option for each function that is asked for."""
+        rtlib = self.trial.rt.rtlib
+        words = [*self.crate.words(["--jobs", "1"], keeps=False), "--incremental", f"{self.trial.room}/kept", *words]
+        words += [it for name in self.asked for it in (option, f"{self.crate.name}::{name}")]
+        with tempfile.TemporaryDirectory(prefix="wrong-bodies-") as room:
+            self.fill(room, is_edited)
+            return subprocess.run([*guarded(rtlib), rtlib.RATTLE, "check", *words], cwd=room, text=True,
+                                  errors="replace", stdin=subprocess.DEVNULL, stdout=subprocess.PIPE,
+                                  stderr=subprocess.STDOUT)
 
     def fill(self, room, is_edited):
-        for part in self.rt.rtlib.PARTS:
+        for part in self.trial.rt.rtlib.PARTS:
             if os.path.isdir(f"{self.crate.folder}/{part}"):
                 shutil.copytree(f"{self.crate.folder}/{part}", f"{room}/{part}")
-        files = {file: text.split("\n") for file, text in self.texts.items()}
+        files = {file: text.split("\n") for file, text in self.trial.texts.items()}
         for edit in self.edits if is_edited else ():
             edit.put(files)
         keeps_bodies = is_edited and any(it.named for it in self.edits)
         for it in self.functions:
             if it.name not in self.asked and not it.cycle:
-                self.put_hole(f"{room}/{it.folder}", it)
+                shutil.rmtree(f"{room}/{it.folder}", ignore_errors=True)
+                hole = HOLE.format(crate=self.crate.name, module=".".join(it.names), name=it.names[-1])
+                written(f"{room}/{it.folder}/Proof.antt", hole)
                 # (each line keeps its number)
                 if not keeps_bodies and it.last - it.opens > 1:
                     inside = it.last - it.opens - 1
                     files[it.file][it.opens + 1 : it.last] = ["unreachable!()"] + [""] * (inside - 1)
         for file, lines in files.items():
-            with open(f"{room}/{file}", "w", encoding="utf-8") as to:
-                to.write("\n".join(lines))
-
-    def put_hole(self, folder, function):
-        shutil.rmtree(folder, ignore_errors=True)
-        os.makedirs(folder)
-        names = [*function.module, *function.inner]
-        with open(f"{folder}/Proof.antt", "w", encoding="utf-8") as to:
-            to.write(HOLE.format(crate=self.crate.name, module=".".join(names), name=names[-1]))
+            written(f"{room}/{file}", "\n".join(lines))
 
     def read(self):
         """Takes from the output what is said of each function: its line, the open goals above it, and errors."""
@@ -145,26 +135,25 @@ class Bundle:
             return BROKEN, f"its check breaks off: {self.first_error()}", ()
         own = {name: told for name, told in self.told.items() if edit.function.owns(name)}
         failed = [name for name, told in own.items() if told.startswith(FAILS)]
-        errors = [text for file, text in self.errors if self.is_of(edit, file) and not UNSEEN.match(text)]
-        gone = [it for it in errors if GONE.search(it)]
-        verdict = self.judge_goals(edit, failed, errors) if failed else None
+        errors = [it for it in self.errors if self.is_of(edit, it[0]) and not UNSEEN.match(it[1])]
+        gone = [it for it in errors if GONE.search(it[1])]
+        verdict = self.judge_goals(edit, failed, errors, gone) if failed else None
         if verdict:
             return verdict
         if failed and gone:
-            return NAME, f"{', '.join(failed)}: {gone[0][:160]}", ()
-        if self.is_behind(edit, " ".join(own[name] for name in failed)):
+            return NAME, f"{', '.join(failed)}: {gone[0][1][:160]}", ()
+        if failed and len(self.edits) > 1:
             return AGAIN, "", ()
         if edit.function.name in own and all(map(PASSES.match, own.values())):
             return PASSED, ", ".join(own), ()
         return BROKEN, f"its check tells nothing of {edit.function.name}", ()
 
-    def judge_goals(self, edit, failed, errors):
+    def judge_goals(self, edit, failed, errors, gone):
         """What the goals of these functions say that are open or whose answer is refused, or None where none is."""
-        gone = [it for it in errors if GONE.search(it)]
         # (a goal can be open only because its answer, or the loop's invariant, went with a name)
-        is_blind = any(map(GOAL_GONE.search, gone)) or self.lacks_invariants(edit)
+        is_blind = any(GOAL_GONE.search(text) or file.endswith("/Invariants.antt") for file, text in gone)
         opened = [] if is_blind else [it for name in failed for it in self.opened[name]]
-        answers = [ANSWER.match(it) for it in errors if it not in gone]
+        answers = [ANSWER.match(it[1]) for it in errors if it not in gone]
         refused = [it[1] if it else "" for it in answers]
         own = {place_of(it) for it in opened if not OF_A_CALLEE.match(it)}
         is_new = edit.makes_a_branch() and not own & goals_in(f"{self.crate.folder}/proofs", "Answers.antt", edit)
@@ -173,16 +162,6 @@ class Bundle:
         if own:
             return BRANCH, ", ".join(failed), own
         return (CALLEE, f"{', '.join(failed)}: {', '.join([*opened, *refused])}", ()) if opened or refused else None
-
-    def lacks_invariants(self, edit):
-        """Whether a name is gone from the invariants of the function's loops."""
-        return any(file.endswith("/Invariants.antt") and self.is_of(edit, file) and GONE.search(text)
-                   for file, text in self.errors)
-
-    def is_behind(self, edit, text):
-        """Whether what is said of the function may rest on another's edit."""
-        named = {*CALLS.findall(text), *(it.replace(".", "::") for it in STANDS.findall(text))}
-        return any(it.is_within(name) for it in self.asked.values() if it.unit != edit.function.unit for name in named)
 
     def first_error(self):
         lines = self.output.rstrip("\n").split("\n")

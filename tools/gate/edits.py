@@ -2,6 +2,9 @@
 import os
 import re
 
+from gate.kit import text_of
+
+LINE = re.compile(r"^(file|in|tests|old|new): ?(.*)$", re.M)
 # The words at which a body goes two ways.
 BRANCH = re.compile(r"\b(?:if|else|match|while|for|loop|return|break|continue)\b|=>|\?|&&|\|\|")
 
@@ -10,29 +13,18 @@ class Edit:
     """Pairs of texts, each within one line of a file, and what is said of them beside."""
 
     def __init__(self, path):
-        self.path, self.label = path, os.path.basename(path).removesuffix(".edit")
-        # The function that an edit outside bodies names, and the function that must be refused.
-        self.pairs, self.named, self.function = [], None, None
+        self.path, self.label, self.text = path, os.path.basename(path).removesuffix(".edit"), text_of(path)
+        # The function that must be refused, how often a check told nothing of it, since others' edits were in it, and
+        # the pairs, each behind its file.
+        self.function, self.tries, self.pairs, said = None, 0, [], {}
+        for key, text in LINE.findall(self.text):
+            said[key] = text
+            if key == "new" and "old" in said:
+                self.pairs.append((said.get("file", "").strip(), said.pop("old"), text))
+        # The function that an edit outside bodies names.
+        self.named = said.get("in", "").strip()
         # Of a planted body the layers of tests/ that are compiled for it; none are all.
-        self.layers = []
-        # How often a check told nothing of it, since others' edits were in it.
-        self.tries = 0
-        with open(path, encoding="utf-8") as it:
-            self.text = it.read()
-        file = old = None
-        for line in self.text.split("\n"):
-            key, _, text = line.partition(":")
-            if key == "file":
-                file = text.strip()
-            elif key == "in":
-                self.named = text.strip()
-            elif key == "tests":
-                self.layers = text.split()
-            elif key == "old":
-                old = text[1:]
-            elif key == "new" and old is not None:
-                self.pairs.append((file, old, text.removeprefix(" ")))
-                old = None
+        self.layers = said.get("tests", "").split()
 
     def makes_a_branch(self):
         """Whether its new texts have more of such words than what was there."""

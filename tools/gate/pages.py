@@ -9,7 +9,7 @@ import re
 import sys
 from dataclasses import dataclass, field
 
-from gate.kit import TOP
+from gate.kit import TOP, text_of, written
 
 FENCE = re.compile(r"^( *)```+(\w*)")
 HEADING = re.compile(r"^#+ +(.*?) *#*$")
@@ -25,11 +25,11 @@ COPY = re.compile(r"^[ \t]*// README: (\S+\.md)\n(.*?)^[ \t]*// README: end\n", 
 
 @dataclass
 class Block:
-    """A block of a page, in a language or in none."""
+    """A block of a page, in a language or in none (""); or a paragraph of its text, whose language is None."""
 
     page: str
     line: int
-    language: str
+    language: str = None
     lines: list = field(default_factory=list)
 
     def title(self):
@@ -40,35 +40,35 @@ class Block:
 
 
 def read(path):
-    with open(f"{TOP}/{path}", encoding="utf-8") as file:
-        return file.read()
+    return text_of(f"{TOP}/{path}")
 
 
 def parts(page):
-    """The blocks of a page, and its headings as their lines."""
-    block, indent = None, ""
+    """The blocks of a page, and the paragraphs of its text."""
+    part, indent = Block(page, 1), ""
     for number, line in enumerate(read(page).splitlines(), 1):
-        fence = FENCE.match(line)
-        if fence and block is None:
-            block, indent = Block(page, number, fence[2]), fence[1]
-        elif fence and not fence[2]:
-            yield block
-            block = None
-        elif block is not None:
-            block.lines.append(line.removeprefix(indent))
-        elif HEADING.match(line):
-            yield line
-    if block is not None:
-        sys.exit(f"{block.title()}: the block has no end")
+        fence, is_text = FENCE.match(line), part.language is None
+        if not (fence or not line.strip() if is_text else fence and not fence[2]):
+            part.lines.append(line.removeprefix(indent))
+            continue
+        if part.lines or not is_text:
+            yield part
+        opens = fence and is_text
+        part, indent = (Block(page, number, fence[2]), fence[1]) if opens else (Block(page, number + 1), "")
+    if part.language is not None:
+        sys.exit(f"{part.title()}: the block has no end")
+    if part.lines:
+        yield part
 
 
-def blocks(page, language):
-    return [it for it in parts(page) if isinstance(it, Block) and it.language == language]
+def fenced(page, language=None):
+    """The blocks of a page, all of them or those in a language."""
+    return [it for it in parts(page) if it.language is not None and language in (None, it.language)]
 
 
 def block(page, language, number):
     """The text of a block of a page."""
-    found = blocks(page, language)
+    found = fenced(page, language)
     if not 0 < number <= len(found):
         sys.exit(f"{page} has {len(found)} blocks of {language}, and no block {number}")
     return found[number - 1].text()
@@ -85,27 +85,23 @@ def filled(text):
 
 def put(path, to):
     """Puts a file of the tree at another place, with the blocks that it takes, and returns that."""
-    with open(to, "w", encoding="utf-8") as file:
-        file.write(filled(read(path)))
-    return to
+    return written(to, filled(read(path)))
 
 
 def stripped(text):
-    return [it.strip() for it in text.strip().splitlines()]
+    return tuple(it.strip() for it in text.strip().splitlines())
 
 
 def untaken():
     """The blocks that have to be run, and that no file takes; and copies that stand on no page."""
     texts = {it: read(it) for pattern in FILES for it in sorted(glob.glob(pattern, root_dir=TOP, recursive=True))}
     taken = {(page, language, int(number)) for it in texts.values() for page, language, number in TAKEN.findall(it)}
-    copies = [(path, page, stripped(text)) for path, it in texts.items() for page, text in COPY.findall(it)]
+    copies = {(page, stripped(text)): path for path, it in texts.items() for page, text in COPY.findall(it)}
     for page in ["README.md", BINDINGS, *sorted(glob.glob("crates/*/README.md", root_dir=TOP))]:
-        found = [it for it in parts(page) if isinstance(it, Block)]
         for language in HELD.get(page, HELD["crates"]):
-            for number, it in enumerate((it for it in found if it.language == language), 1):
-                is_copied = any(page == its and stripped(it.text()) == lines for _, its, lines in copies)
-                if (page, language, number) not in taken and not is_copied:
+            for number, it in enumerate(fenced(page, language), 1):
+                if (page, language, number) not in taken and (page, stripped(it.text())) not in copies:
                     yield f"{it.title()}: nothing runs this block"
-        shown = [stripped(it.text()) for it in found]
-        yield from (f"{path}: a copy stands not in {page}: {lines[:1]}" for path, its, lines in copies
-                    if its == page and lines not in shown)
+    for (page, lines), path in copies.items():
+        if lines not in [stripped(it.text()) for it in fenced(page)]:
+            yield f"{path}: a copy stands not in {page}: {lines[:1]}"

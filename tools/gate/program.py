@@ -1,5 +1,6 @@
 """The repository's programs: their proved builds, and those that are compiled from the sources without a proof."""
 import contextlib
+import functools
 import hashlib
 import os
 import shutil
@@ -10,8 +11,7 @@ import tempfile
 import time
 
 from . import compiler
-from .kit import CC, TOP, demand, guarded, load_rt, place, read, text_of, version_of_rt, written
-from .progress import Progress
+from .kit import CC, TOP, demand, guarded, load_rt, place, read, say, stop, text_of, version_of_rt, written
 from .sources import needs_of, sum_of_files, walked
 
 # Their names in the shell.
@@ -22,6 +22,10 @@ PARTS = ("src", "specs", "proofs")
 SUFFIXES = f"{TOP}/examples/suffixes.dat"
 SEED = "00" * 32
 BEGIN = "2024-01-01T00:00:00Z"
+# Words with which a program ends with 0, over a store file or a jar that isn't there.
+STORE = "store.ron"
+RUN = {"cookie-run": [SUFFIXES, SEED, STORE, BEGIN],
+       "cookie-jar": ["--now", BEGIN, "--suffixes", SUFFIXES, "--format", "ron", STORE, "list"]}
 # Seconds of a first compile, on four calm cores at 2.5 GHz.
 SECONDS = {"cookie-run": 55, "cookie-jar": 70}
 # Drops what the program doesn't reach, optimises the rest in little time, puts the checks of memory in, and makes code
@@ -30,19 +34,20 @@ SECONDS = {"cookie-run": 55, "cookie-jar": 70}
 CLANG = """#!/bin/sh
 case " $* " in *" -fsanitize=address "*) ;; *) exec "{clang}" "$@" ;; esac
 steps='sroa,early-cse<memssa>,simplifycfg,instcombine<no-verify-fixpoint>,memcpyopt,dse,simplifycfg'
-ld="${{0%clang}}ld.lld"
+ld="${0%clang}ld.lld"
 "$ld" -shared -Bsymbolic --lto-newpm-passes="globaldce,cgscc(inline,function($steps)),globaldce,asan" \\
     -mllvm -inline-threshold=0 -mllvm -no-trap-after-noreturn -mllvm -trap-unreachable -mllvm -no-x86-call-frame-opt \\
     --lto-partitions=4 --lto-CGO0 --lto-obj-path=part.o module.bc -o whole.so && exec "$ld" -r part.o* -o module.o
+"""
+# Keeps the program that it links, since the run that is made of it takes its folder away.
+LINKER = """#!/bin/sh
+"{ld.lld}" "$@" || exit
+case " $* " in *" -o program "*) cp program "KEPT" ;; esac
 """
 
 
 def crate_of(command):
     return f"{command.replace('-', '_')}_program"
-
-
-def commands_of(crates):
-    return [it for it in NAMES if crate_of(it) in crates]
 
 
 def built(command, top=TOP):
@@ -53,24 +58,21 @@ def built(command, top=TOP):
 def given(path, command):
     """The program of a script's option, else the proved build. Ends with a line where that isn't there."""
     found = os.path.realpath(path or built(command))
-    if os.path.isfile(found) and os.access(found, os.X_OK):
-        return found
-    name = crate_of(command)
-    return sys.exit(f"{os.path.basename(sys.argv[0])}: {found} is no program; `rt run` in crates/{name} builds it")
+    if not (os.path.isfile(found) and os.access(found, os.X_OK)):
+        stop(f"{found} is no program; `rt run` in crates/{crate_of(command)} builds it")
+    return found
 
 
+@functools.cache
 def crates_to(crate):
     """The repository's crates that one is made of, itself the last."""
-    uses, found = needs_of(text_of(f"{TOP}/crates.txt")), []
+    uses = needs_of(text_of(f"{TOP}/crates.txt"))
+    return [*dict.fromkeys(it for below in uses[crate] if below in uses for it in crates_to(below)), crate]
 
-    def add(name):
-        for it in uses[name]:
-            if it in uses and it not in found:
-                add(it)
-        found.append(name)
 
-    add(crate)
-    return found
+def parts_of(crate, parts=PARTS):
+    """The folders of a crate and of those below it that a build reads, by their paths in the tree."""
+    return [f"crates/{name}/{part}" for name in crates_to(crate) for part in parts]
 
 
 def is_built(command):
@@ -81,18 +83,16 @@ def is_built(command):
 def is_fresh(crate, path):
     """Whether no file of a crate and of those below it is younger than this one."""
     files = [f"{TOP}/crates.txt"]
-    for name in crates_to(crate):
-        for part in PARTS:
-            for at, _, names in os.walk(f"{TOP}/crates/{name}/{part}"):
-                files += [at, *(f"{at}/{it}" for it in names)]
+    for part in parts_of(crate):
+        for at, _, names in os.walk(f"{TOP}/{part}"):
+            files += [at, *(f"{at}/{it}" for it in names)]
     return max(map(os.path.getmtime, files)) <= os.path.getmtime(path)
 
 
 def made_of(crate, *more, top=TOP):
     """What a build tells that it is made of and by: the toolchain, and one sum of the files of a crate of a tree, of
     those below it, and of `more`, whether git knows them or not."""
-    parts = [f"crates/{name}/{part}" for name in crates_to(crate) for part in PARTS]
-    names = walked(top, "crates.txt", "HANDLES", *parts, *more)
+    names = walked(top, "crates.txt", "HANDLES", *parts_of(crate), *more)
     return f"toolchain={version_of_rt()}\nsources={sum_of_files(top, names)}\n"
 
 
@@ -111,8 +111,8 @@ def noted(path):
 
 def compiled(command):
     """Where a program stands that is compiled of the sources as they are, by the toolchain that is here."""
-    parts = [f"crates/{name}/{part}" for name in crates_to(crate_of(command)) for part in ("src", "specs")]
-    sums = sum_of_files(TOP, walked(TOP, "crates.txt", *parts)) + os.path.realpath(load_rt().rtlib.KIT)
+    names = walked(TOP, "crates.txt", *parts_of(crate_of(command), ("src", "specs")))
+    sums = sum_of_files(TOP, names) + os.path.realpath(load_rt().rtlib.KIT)
     return f"{COMPILED}/{command}/{hashlib.sha256(sums.encode()).hexdigest()[:32]}/{command}"
 
 
@@ -124,40 +124,23 @@ def ready(command):
     return path if os.access(path, os.X_OK) else None
 
 
-def words_of(command, store):
-    """Words with which a program ends with 0, over a file where it keeps its cookies, or one that is made of such."""
-    if command == "cookie-jar":
-        return ["--now", BEGIN, "--suffixes", SUFFIXES, "--format", "ron", store, "list"]
-    return [SUFFIXES, SEED, store, BEGIN]
-
-
-def run_words(command, store):
-    """The words of `rt` that prove and build a program, and run it so that it ends with 0."""
-    return ["rt", "run", "--", *words_of(command, store)]
-
-
 def build(command):
-    """Proves and builds the program anew over what its proof has kept, one crate after the other."""
+    """Proves and builds the program anew, and the crates below it, over what their proofs have kept."""
     demand("rt", CC[0])
-    made = made_of(crate_of(command))
+    crate, log, began = crate_of(command), LOG.format("build"), time.time()
+    made = made_of(crate)
     # (so that none of it is taken for the next one's)
     for ending in ("", ".o", ".o.made", ".stamp"):
         with contextlib.suppress(FileNotFoundError):
             os.remove(f"{built(command)}{ending}")
+    say(f"proving and building {len(crates_to(crate))} crates; {os.path.relpath(log)} tells of each")
     os.makedirs(f"{TOP}/out", exist_ok=True)
-    progress, log, names, began = Progress(command), LOG.format("build"), crates_to(crate_of(command)), time.time()
     with open(log, "wb") as to, tempfile.TemporaryDirectory() as room:
-        for number, name in enumerate(names, 1):
-            progress.show(f"proving and building {name}, crate {number} of {len(names)}")
-            words = run_words(command, f"{room}/store.ron") if name == crate_of(command) else ["rt", "lib"]
-            how = {"stdin": subprocess.DEVNULL, "stdout": to, "stderr": to}
-            status = subprocess.run(words, cwd=f"{TOP}/crates/{name}", **how).returncode
-            if status:
-                break
-    progress.end()
+        words = ["rt", "run", "--", *(f"{room}/store.ron" if it == STORE else it for it in RUN[command])]
+        how = {"stdin": subprocess.DEVNULL, "stdout": to, "stderr": to}
+        status = subprocess.run(words, cwd=f"{TOP}/crates/{crate}", **how).returncode
     if status or not os.path.isfile(built(command)):
-        print(f"{command}: {name} was not built; {os.path.relpath(log)} tells why", file=sys.stderr)
-        sys.exit(126)
+        stop(f"{command} was not built; {os.path.relpath(log)} tells why", 126)
     # (a source that was changed meanwhile is younger)
     os.utime(built(command), (began, began))
     put_note(f"{built(command)}.o", made)
@@ -182,8 +165,7 @@ def build_for(command, processor):
         build(command)
         return
     rtlib, to, began = load_rt().rtlib, built_for(command, processor), time.time()
-    made = made_of(crate_of(command))
-    crate = next(it for it in rtlib.crates_below(TOP) if it.name == crate_of(command))
+    made, crate = made_of(crate_of(command)), toolchains(command)
     words = crate.words(["--jobs", "1", f"--target={processor}-unknown-linux-gnu", "--backend", "llvm"])
     words += ["--toolchain", place("toolchain"), "--incremental", "out/incremental"]
     os.makedirs(os.path.dirname(to), exist_ok=True)
@@ -191,80 +173,59 @@ def build_for(command, processor):
         how = {"cwd": crate.folder, "stdin": subprocess.DEVNULL, "stdout": log, "stderr": log}
         status = subprocess.run([*guarded(rtlib), rtlib.RATTLE, "build", *words, "-o", to], **how).returncode
     if status:
-        sys.exit(f"{command}: it was not built for {processor}: {os.path.relpath(log.name)} tells why")
+        stop(f"{command} was not built for {processor}; {os.path.relpath(log.name)} tells why", 1)
     # (a source that was changed meanwhile is younger)
     os.utime(to, (began, began))
     put_note(to, made)
 
 
-def compile_sources(command, is_shown=True):
+def toolchains(command):
+    """The program's crate as the toolchain's library has it."""
+    return next(it for it in load_rt().rtlib.crates_below(TOP) if it.name == crate_of(command))
+
+
+def compile_sources(command):
     """Compiles the program from its sources, with checks of each index, sum and access of memory and with no proof,
     and keeps it in the place of those of other sources. Returns its path."""
     demand("rt", CC[0])
-    path, log = compiled(command), LOG.format("compile")
-    folder = f"{COMPILED}/{command}"
-    with compiler.alone(f"{folder}/lock", lambda: say(command, "waiting for another compile")):
-        if os.access(path, os.X_OK):
-            return path
-        say(command, f"compiling the program, with no proof: some {SECONDS[command]} seconds, once")
-        progress = Progress(command, is_shown)
-        progress.show("compiling")
-        try:
-            with open(log, "wb") as to:
-                is_done = put_compiled(command, f"{folder}/new", path, to)
-        finally:
-            progress.end()
-            shutil.rmtree(f"{folder}/new", ignore_errors=True)
-    if not is_done:
-        print(f"{command}: the program was not compiled; {os.path.relpath(log)} tells why", file=sys.stderr)
-        sys.exit(126)
+    path, folder, log = compiled(command), f"{COMPILED}/{command}", LOG.format("compile")
+    with compiler.alone(f"{folder}/lock", lambda: say("waiting for another compile")):
+        if not os.access(path, os.X_OK):
+            say(f"compiling {command}, with no proof: some {SECONDS[command]} seconds, once")
+            try:
+                put_compiled(command, f"{folder}/new", path, log)
+            finally:
+                shutil.rmtree(f"{folder}/new", ignore_errors=True)
+    if not os.access(path, os.X_OK):
+        stop(f"{command} was not compiled; {os.path.relpath(log)} tells why", 126)
     return path
 
 
 def put_compiled(command, room, path, log):
-    """Compiles the program in a folder, and puts it at its path at once. Returns whether that was done."""
+    """Compiles the program in a folder, and puts it at its path at once, if it can be compiled."""
     # (what one that was killed left)
     shutil.rmtree(room, ignore_errors=True)
-    # (of these sources alone: a program of others that runs meanwhile links itself to a place of its own)
-    made = f"{room}/{os.path.basename(os.path.dirname(path))}/{command}"
+    made, (folder, _) = f"{room}/made/{command}", os.path.split(os.path.dirname(path))
     os.makedirs(os.path.dirname(made))
-    # (a program is linked to its place, so it is made on the same file system)
-    keeper = [*CC, "-O2", "-fPIC", "-c", f'-DKEPT="{made}.program"', "-o", f"{room}/keep.o"]
-    how = {"stdin": subprocess.DEVNULL, "stdout": log, "stderr": log}
-    if subprocess.run([*keeper, f"{os.path.dirname(__file__)}/keep.c"], **how).returncode:
-        return False
-    rtlib = load_rt().rtlib
-    crate = next(it for it in rtlib.crates_below(TOP) if it.name == crate_of(command))
-    links = [place("os"), place("libc"), f"{room}/keep.o"]
-    compiler.compiled(crate, room, CLANG, log, [word for it in links for word in ("--link", it)])
-    if not os.path.isfile(f"{made}.program"):
-        return False
-    put_words(made)
-    folder = os.path.dirname(os.path.dirname(path))
-    for it in os.listdir(folder):
-        if it not in ("lock", os.path.basename(room)):
+    links = ["--link", place("os"), "--link", place("libc")]
+    with open(log, "wb") as to:
+        compiler.compiled(toolchains(command), room, CLANG, to, links, LINKER.replace("KEPT", f"{made}.program"))
+    if os.path.isfile(f"{made}.program"):
+        put_words(made)
+        for it in {*os.listdir(folder)} - {"lock", os.path.basename(room)}:
             shutil.rmtree(f"{folder}/{it}")
-    os.rename(os.path.dirname(made), os.path.dirname(path))
-    return True
+        os.rename(os.path.dirname(made), os.path.dirname(path))
 
 
 def put_words(made):
     """Puts a file beside the program, wherever both are moved, that runs it by the toolchain's C library."""
     lib = place("lib")
-    words = f'"{lib}/ld-linux-x86-64.so.2" --inhibit-cache --library-path "{lib}" "$0.program" "$@"'
+    words = f'"{lib}/ld-linux-x86-64.so.2" --inhibit-cache --library-path "{lib}" "$(readlink -f "$0").program" "$@"'
     os.chmod(written(made, f"#!/bin/sh\nexec {words}\n"), 0o755)
 
 
-def say(command, text):
-    print(f"{command}: {text}", file=sys.stderr, flush=True)
-
-
-def start(command, usage):
-    """Runs a program with this one's words in the place of this one; or proves and builds it by `--prove`, or prints
-    the usage, where there is one, by `--help`."""
-    if usage and sys.argv[1:] == ["--help"]:
-        print(usage, end="")
-        sys.exit()
+def start(command):
+    """Runs a program with this one's words in the place of this one; or proves and builds it by `--prove`."""
     compiler.end_by_exception()
     try:
         if sys.argv[1:] == ["--prove"]:
@@ -274,7 +235,7 @@ def start(command, usage):
         path = ready(command)
         if not path:
             path = compile_sources(command)
-            say(command, f"compiled, and not proved here; ./{command} --prove proves and builds it")
+            say(f"compiled, and not proved here; ./{command} --prove proves and builds it")
     except KeyboardInterrupt:
         sys.exit(128 + signal.SIGINT)
     os.execv(path, [path, *sys.argv[1:]])

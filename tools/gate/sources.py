@@ -20,14 +20,10 @@ def git(top, *words):
     doesn't know isn't told from what it does then."""
     if not has_git(top):
         return None
-    if said_by_git(top, "rev-parse", "--show-prefix") != "\n":
-        sys.exit(f"git: {top} has a .git, and git takes it for no top of a tree")
-    return said_by_git(top, *words)
-
-
-def said_by_git(top, *words):
+    # (it is asked of this tree, and of none that this one is within)
+    env = {**os.environ, "GIT_CEILING_DIRECTORIES": os.path.dirname(os.path.realpath(top))}
     try:
-        ran = subprocess.run(["git", *words], cwd=top, capture_output=True, check=False)
+        ran = subprocess.run(["git", *words], cwd=top, env=env, capture_output=True, check=False)
     except OSError as why:
         sys.exit(f"git: {top} has a .git, and git doesn't run: {why}")
     if ran.returncode:
