@@ -94,13 +94,8 @@ def links_static(processor):
 
 def static(words, parts):
     """A static file of these objects, and of these files in C, by the words of a compiler."""
-    flags = ["-static", "-Wl,--build-id=none", "-Wl,--gc-sections", "-Wl,-s"]
+    flags = ["-O2", "-std=gnu11", "-Wall", "-Wextra", "-static", "-Wl,--build-id=none", "-Wl,--gc-sections",
+             "-Wl,-s"]
     with tempfile.TemporaryDirectory() as room:
-        def in_c(path):
-            made = f"{room}/{os.path.basename(path)}.o"
-            run(*words, "-O2", "-std=gnu11", "-Wall", "-Wextra", "-c", path, "-o", made)
-            return made
-
-        objects = [in_c(it) if it.endswith(".c") else it for it in parts]
-        run(*words, *objects, *flags, "-o", f"{room}/made")
+        run(*words, *parts, *flags, "-o", f"{room}/made")
         return read(f"{room}/made")

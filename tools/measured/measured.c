@@ -2,6 +2,7 @@
    counted, and the lengths of two texts, and then these. A script begins with `row`, its name and its size, and ends
    with `end`. It writes these, and the bytes that counted calls asked for, or that are kept for each of the size
    between `mark` and `kept`; callgrind writes down the instructions. The status is 1 where a call is refused. */
+#include <dlfcn.h>
 #include <stdbool.h>
 #include <stdint.h>
 #include <stdio.h>
@@ -15,9 +16,6 @@ typedef bool call(void *at, const char *, size_t, const char *, size_t);
 size_t measured_size(void);
 void measured_begin(void *at);
 void measured_end(void *at);
-#define CALL(name) call does_##name;
-#include "calls.h"
-#undef CALL
 
 static const int64_t NOW = 1700000000;
 static uint64_t place[1024];
@@ -39,7 +37,7 @@ static void tell(size_t bytes) {
 
 /* A call of this file, which holds where what it does is true. */
 #define STEP(name, does) \
-    static bool name(void *at, const char *first, size_t length, const char *second, size_t more) { \
+    bool does_##name(void *at, const char *first, size_t length, const char *second, size_t more) { \
         (void)at, (void)first, (void)length, (void)second, (void)more; \
         return does; \
     }
@@ -87,23 +85,13 @@ STEP(end, ended(at))
 STEP(mark, (before = heap.kept, true))
 STEP(kept, (tell((heap.kept - before) / size), true))
 
-static const struct {
-    const char *word;
-    call *it;
-} CALLS[] = {
-#define CALL(name) {#name, does_##name},
-#include "calls.h"
-    {"handle_begin", handle_begin}, {"handle_receive", handle_receive}, {"handle_header", handle_header},
-    {"handle_import", handle_import}, {"handle_export", handle_export}, {"handle_end", handle_end},
-    {"row", row}, {"end", end}, {"mark", mark}, {"kept", kept},
-};
-
+/* What is done for a word: a call of this file, or of the library. */
 static call *called(const char *word) {
-    for (size_t i = 0; i < sizeof CALLS / sizeof *CALLS; i++)
-        if (strcmp(word, CALLS[i].word) == 0)
-            return CALLS[i].it;
-    demand(false, word);
-    return NULL;
+    char its_name[72];
+    snprintf(its_name, sizeof its_name, "does_%s", word);
+    call *it = (call *)dlsym(NULL, its_name);
+    demand(it, word);
+    return it;
 }
 
 static void make(call *it, int counts, const char *word, const char *first, size_t length, const char *second,

@@ -6,8 +6,6 @@ umask 022
 # (where ldconfig is, which not every PATH names)
 PATH=$PATH:/usr/sbin:/sbin
 usage="usage: install.sh PREFIX, as /usr/local"
-line_break='
-'
 
 say() {
     printf 'install.sh: %s\n' "$1"
@@ -42,7 +40,6 @@ put() {
 case ${1-} in
     -h | --help) echo "$usage" && exit ;;
     -*) fail "$1 is no PREFIX; a folder of that name is ./$1" 2 ;;
-    *"$line_break"*) fail "PREFIX has a line break" 2 ;;
 esac
 if [ $# != 1 ] || [ -z "$1" ]; then
     echo "$usage" >&2
@@ -50,12 +47,7 @@ if [ $# != 1 ] || [ -z "$1" ]; then
 fi
 [ -z "${DESTDIR-}" ] ||
     fail "DESTDIR isn't read: say install.sh \$DESTDIR/usr, since fonnalich.pc tells of the folder where it lies" 2
-case $0 in /*) self=$0 ;; *) self=./$0 ;; esac
-while [ -L "$self" ]; do
-    link=$(readlink "$self")
-    case $link in /*) self=$link ;; *) self=$(dirname "$self")/$link ;; esac
-done
-here=$(cd "$(dirname "$self")" >/dev/null && pwd)
+here=$(dirname "$(readlink -f "$0")")
 for it in include/fonnalich.h lib/libfonnalich.a share/doc/fonnalich/PROVENANCE.json; do
     [ -f "$here/$it" ] || fail "there is no $it in $here, where it looks for what it installs" 1
 done

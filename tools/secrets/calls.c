@@ -10,7 +10,6 @@ bool derive_key(TEXT(master_key), uint8_t *key);
 bool same_keys(TEXT(a), TEXT(b));
 void sign(TEXT(key), TEXT(text), uint8_t *code);
 size_t sign_value(TEXT(key), TEXT(value), uint8_t *out, size_t out_length);
-bool verify_text(TEXT(key), TEXT(text));
 size_t seal_value(TEXT(key), TEXT(name), TEXT(value), uint8_t *out, size_t out_length);
 size_t verify_under_ring(TEXT(keys), TEXT(text));
 size_t open_under_ring(TEXT(keys), TEXT(name), TEXT(text));
@@ -23,7 +22,7 @@ void branches(const uint8_t *h, const uint8_t *block, uint8_t *product);
 void masks(const uint8_t *h, const uint8_t *block, uint8_t *product);
 
 static uint8_t master[40], key[64], other_key[64], nonce[12], name[20], text[41], sealed[41], tag[16], code[32];
-static uint8_t signing[44 + sizeof text], other_code[32], table[256], h[16], block[16], product[16];
+static uint8_t other_code[32], table[256], h[16], block[16], product[16];
 
 /* A ring of keys one behind another, and one more key that isn't in it. */
 enum { KEYS = 5, NONE = 99 };
@@ -63,18 +62,6 @@ static void signs(void) {
     SECRET(key);
     SECRET(text);
     sign(ALL(key), ALL(text), code);
-}
-
-/* What was sent is known: with the code that is right, and with one whose last byte is another one. */
-static void verifies(void) {
-    for (int i = 0; i < 2; i++) {
-        demand(sign_value(ALL(key), ALL(text), ALL(signing)) == sizeof signing, "sign_value");
-        signing[42] = i ? (signing[42] == 'A' ? 'E' : 'A') : signing[42];
-        SECRET(key);
-        verdicts++;
-        answers(verify_text(ALL(key), ALL(signing)), !i, "verify_text");
-        PUBLIC(key);
-    }
 }
 
 static size_t made_by(const uint8_t *by, bool is_sealed) {
@@ -135,7 +122,6 @@ static void compares_codes(void) {
     X(key_derived, derives()) \
     X(keys_compared, compares()) \
     X(text_signed, signs()) \
-    X(text_verified, verifies()) \
     X(text_verified_under_ring, reads_under_ring(false)) \
     X(text_opened_under_ring, reads_under_ring(true)) \
     X(text_sealed, seals()) \

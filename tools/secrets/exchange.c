@@ -30,35 +30,27 @@ static void tell(ptrdiff_t length) {
     demand(fonnalich_next(&at, out + length, &item, &item_length), "an exchange");
 }
 
-/* Makes an exchange. */
-static void ask(const char *header, const char *commands) {
-    tell(fonnalich_exchange(key, sizeof key, header, strlen(header), NOW, commands, strlen(commands), nonces,
-                            sizeof nonces, out, sizeof out));
+/* Makes an exchange by `key`, or on so many keys of the ring. */
+static void ask(const char *keys, size_t count, int64_t second, const char *header, const char *commands) {
+    size_t length = strlen(header), more = strlen(commands);
+    if (keys == key)
+        tell(fonnalich_exchange(key, sizeof key, header, length, second, commands, more, nonces, sizeof nonces, out,
+                                sizeof out));
+    else
+        tell(fonnalich_exchange_on_ring(keys, count * FONNALICH_KEY_LENGTH, ends, count - 1, header, length, second,
+                                        commands, more, nonces, sizeof nonces, out, sizeof out));
 }
 
-/* Makes one on a ring of so many keys. */
-static void ask_on(const char *keys, size_t count, int64_t second, const char *header, const char *commands) {
-    tell(fonnalich_exchange_on_ring(keys, count * FONNALICH_KEY_LENGTH, ends, count - 1, header, strlen(header), second,
-                                    commands, strlen(commands), nonces, sizeof nonces, out, sizeof out));
-}
-
-static void set(char way, const char *value) {
+static void set(const char *keys, size_t count, char way, const char *value) {
     char command[128];
-    snprintf(command, sizeof command, FONNALICH_SET "%cuser=%s", way, value);
-    ask("", command);
+    snprintf(command, sizeof command, FONNALICH_SET "%cuser=%s%s", way, value, keys == key ? "" : UNTIL);
+    ask(keys, count, NOW, "", command);
 }
 
-static void get(char way, const char *header) {
+static void get(const char *keys, size_t count, int64_t second, char way, const char *header) {
     char command[] = FONNALICH_GET "-user";
     command[1] = way;
-    verdicts++;
-    ask(header, command);
-}
-
-static void set_until(const char *keys, size_t count, char way, const char *value) {
-    char command[128];
-    snprintf(command, sizeof command, FONNALICH_SET "%cuser=%s" UNTIL, way, value);
-    ask_on(keys, count, NOW, "", command);
+    ask(keys, count, second, header, command);
 }
 
 /* The header that brings back what the line at the front of the answer sets, not escaped. */
@@ -76,17 +68,11 @@ static const char *brought_back(void) {
 }
 
 /* The header that brings a value back, made by a key of which all is known. */
-static const char *header_of(char way, const char *value) {
+static const char *header_of(const char *by, char way, const char *value) {
     PUBLIC(key);
-    set(way, value);
-    SECRET(key);
-    return brought_back();
-}
-
-/* The same of a value that ends, made by the key of a place. */
-static const char *header_until(size_t place, char way, const char *value) {
     PUBLIC(ring);
-    set_until(ring[place], 1, way, value);
+    set(by, 1, way, value);
+    SECRET(key);
     SECRET(ring);
     return brought_back();
 }
@@ -106,7 +92,7 @@ static char another(char letter) {
 /* The header with one bit changed of what stands at a place of the base64, counted from its end where it is below 0. */
 static const char *wrong(char way, const char *value, int place) {
     static char header[512];
-    strcpy(header, header_of(way, value));
+    strcpy(header, header_of(key, way, value));
     char *text = header + strlen("user="), *at = place < 0 ? strchr(text, 0) + place : text + place;
     while (*at == '=')
         at--;
@@ -118,21 +104,23 @@ static int is_read(const char *value) {
     return item_length == (ptrdiff_t)strlen(value) && memcmp(item, value, strlen(value)) == 0;
 }
 
-static void sets(char way) {
+static void sets(const char *keys, char way) {
     for (int i = 0; i < VALUES_COUNT; i++)
-        set(way, VALUES[i]);
+        set(keys, KEYS, way, VALUES[i]);
 }
 
 static void reads(char way) {
     for (int i = 0; i < VALUES_COUNT; i++) {
-        get(way, header_of(way, VALUES[i]));
+        verdicts++;
+        get(key, 1, NOW, way, header_of(key, way, VALUES[i]));
         demand(is_read(VALUES[i]), "a reading");
     }
 }
 
 static void reads_wrong(char way, const int *places, int count) {
     for (int i = 0; i < count; i++) {
-        get(way, wrong(way, VALUES[i % VALUES_COUNT], places[i]));
+        verdicts++;
+        get(key, 1, NOW, way, wrong(way, VALUES[i % VALUES_COUNT], places[i]));
         demand(item_length < 0, "a wrong reading");
     }
 }
@@ -143,19 +131,12 @@ static const int CODES[] = {0, 21, 42, 44};
 static const int SEALINGS[] = {0, 15, 16, -20, -11, -1};
 #define COUNT(places) (int)(sizeof(places) / sizeof *(places))
 
-static void sets_until(char way) {
-    for (int i = 0; i < VALUES_COUNT; i++)
-        set_until(ring[0], KEYS, way, VALUES[i]);
-}
-
 /* Reads what the key of a place made. There is a verdict for each key of the ring, and one whether there is a value; of
    an opening the compiler asks for that of each key where it is kept, too. */
 static void read_until(char way, size_t place, int64_t second) {
-    char command[] = FONNALICH_GET "-user";
-    const char *value = VALUES[place % VALUES_COUNT], *header = header_until(place, way, value);
-    command[1] = way;
+    const char *value = VALUES[place % VALUES_COUNT];
     verdicts += (way == *FONNALICH_SEALED_UNTIL ? 2 * KEYS : KEYS) + 1;
-    ask_on(ring[0], KEYS, second, header, command);
+    get(ring[0], KEYS, second, way, header_of(ring[place], way, value));
     int is_wanted = place < KEYS && second < NOW + HOUR;
     demand(is_wanted ? is_read(value) : item_length < 0, "a reading of a value that ends");
 }
@@ -171,14 +152,14 @@ static void reads_until(char way) {
 /* (of a reading of a signed value that ends and is right memcheck tells wherever its value goes, since the compiler takes
    that by the verdict, and not by a branch) */
 #define LOOKS(X) \
-    X(sets_signed, sets(*FONNALICH_SIGNED)) \
-    X(sets_sealed, sets(*FONNALICH_SEALED)) \
+    X(sets_signed, sets(key, *FONNALICH_SIGNED)) \
+    X(sets_sealed, sets(key, *FONNALICH_SEALED)) \
     X(reads_signed, reads(*FONNALICH_SIGNED)) \
     X(reads_wrong_signed, reads_wrong(*FONNALICH_SIGNED, CODES, COUNT(CODES))) \
     X(reads_sealed, reads(*FONNALICH_SEALED)) \
     X(reads_wrong_sealed, reads_wrong(*FONNALICH_SEALED, SEALINGS, COUNT(SEALINGS))) \
-    X(sets_signed_until, sets_until(*FONNALICH_SIGNED_UNTIL)) \
-    X(sets_sealed_until, sets_until(*FONNALICH_SEALED_UNTIL)) \
+    X(sets_signed_until, sets(ring[0], *FONNALICH_SIGNED_UNTIL)) \
+    X(sets_sealed_until, sets(ring[0], *FONNALICH_SEALED_UNTIL)) \
     X(reads_wrong_signed_until, read_until(*FONNALICH_SIGNED_UNTIL, KEYS, NOW)) \
     X(reads_sealed_until, reads_until(*FONNALICH_SEALED_UNTIL))
 LOOKS(DEFINED)
@@ -188,9 +169,9 @@ static void count(char way, int place, int is_kept) {
     char header[512], name[32];
     strcpy(header, wrong(way, VALUES[1], place));
     snprintf(name, sizeof name, "%s %d", way == *FONNALICH_SIGNED ? "signed" : "sealed", place);
-    get(way, header);
+    get(key, 1, NOW, way, header);
     CALLGRIND_ZERO_STATS;
-    get(way, header);
+    get(key, 1, NOW, way, header);
     if (is_kept)
         CALLGRIND_DUMP_STATS_AT(name);
 }
