@@ -1,7 +1,7 @@
 use Rattle.std.proofs.Common.{◌++◌, ◌∙◌, ap}
 use Rattle.fonnalich_c.specs.Items.{item}
-use Rattle.fonnalich_c.proofs.RingExchanges.{on_ok_gives, read_more}
-use Rattle.fonnalich_c.proofs.ring_exchange.push_read.Goals as goal
+use Rattle.fonnalich_c.proofs.Exchanges.{on_ok_gives, read_more}
+use Rattle.fonnalich_c.proofs.exchange.push_read.Goals as goal
 
 pub returns : goal.returns
 returns c =

@@ -5,7 +5,7 @@ use Rattle.user_agent.specs.CrossAnswers.{IsStoppedFor, ReceivesFor}
 use Rattle.fonnalich_c.specs.Given.{lines_of}
 use Rattle.fonnalich_c.specs.Rules.{outcome_for_number}
 use Rattle.fonnalich_c.proofs.Receiving.{as_many_for}
-use Rattle.fonnalich_c.proofs.started.take.Goals as goal
+use Rattle.fonnalich_c.proofs.started.take_all.Goals as goal
 
 pub numbered-requires-clause-fits : goal.numbered-requires-clause-fits
 numbered-requires-clause-fits c =

@@ -1,7 +1,7 @@
 use Rattle.std.proofs.Common.{◌≡◌, ◌∙◌, drop, length, rules, sym, take}
-use Rattle.fonnalich_c.specs.RingExchange.{ending_nonce_length}
-use Rattle.fonnalich_c.proofs.RingExchanges.{set_by}
-use Rattle.fonnalich_c.proofs.ring_exchange.set_until.Goals as goal
+use Rattle.fonnalich_c.specs.Exchange.{ending_nonce_length}
+use Rattle.fonnalich_c.proofs.Exchanges.{set_by}
+use Rattle.fonnalich_c.proofs.exchange.set_until.Goals as goal
 
 pub returns-in-Ok-clause-ok : goal.returns-in-Ok-clause-ok
 returns-in-Ok-clause-ok c =
