@@ -5,21 +5,18 @@ use Rattle.std.proofs.lemmas.List.{append-nil, drop_more, map-append, take-appen
 use Rattle.std.specs.Prelude.{IfErr, OnOk, Bool, Some}
 use Rattle.std.specs.Int.{to_le_bytes, w64}
 use Rattle.jiff.specs.Types.{DateTime}
-use Rattle.cookie.specs.KeyRing.{Ring}
 use Rattle.cookie_text.specs.Record.{Seen}
 use Rattle.cookie_client.specs.Ending.{IsKeptUntil}
 use Rattle.cookie_client.specs.RingSession.{Ringed, SetsUntil}
 use Rattle.cookie_client.specs.declared.ending.EndingWay.{EndingWay}
 use Rattle.cookie_client.specs.declared.ending.EndingWay.TheVariants as ends
 pub use Rattle.cookie_client.proofs.Outcomes.{ok_gives, err_gives}
-use Rattle.fonnalich_c.specs.Exchange.{AllTell, IsNoExchangeOn, LineTells, Opens, RefusesLine, SetsUntilBy, StopsAt}
+use Rattle.fonnalich_c.specs.Exchange.{AllTell, LineTells, RefusesLine, SetsUntilBy, StopsAt}
 use Rattle.fonnalich_c.specs.Exchange.{ending_nonce_length}
-use Rattle.fonnalich_c.specs.Given.{lines_of}
 use Rattle.fonnalich_c.specs.Items.{item, placed_text}
 use Rattle.fonnalich_c.specs.Numbers.{refusal_number}
 use Rattle.fonnalich_c.specs.Room.{Gives, IsWritten}
 use Rattle.fonnalich_c.specs.declared.refusal.Refusal.{Refusal}
-use Rattle.fonnalich_c.specs.declared.refusal.Refusal.TheVariants.{Memory}
 
 -- ---- outcomes
 
@@ -87,17 +84,6 @@ stops_at on_ring text xs i d old mid now nonces left told refused less all why =
   done = all;
   refuses = why;
 }
-
--- an exchange is refused as its commands are, once the session is open
-pub stopped : (on_ring : Bool) (IsOf : Ring → Type 0) (IsKeyFault : Refusal → Type 0) (header : List ℕ) (second : ℤ)
-    (commands nonces : List ℕ) (opened : Ringed) (now : DateTime) (lines : List (List ℕ)) (refused : Refusal)
-    → Opens IsOf header second opened now → lines ≡ lines_of commands
-    → (refused ≡ Memory) ⊎ StopsAt on_ring opened now lines nonces refused
-    → IsNoExchangeOn on_ring IsOf IsKeyFault header second commands nonces refused
-stopped on_ring IsOf IsKeyFault header second commands nonces opened now lines refused opens same (inl lack) =
-    inl (inl lack)
-stopped on_ring IsOf IsKeyFault header second commands nonces opened now lines refused opens same (inr why) =
-    inr (opened, now, opens, subst (λ ls. StopsAt on_ring opened now ls nonces refused) same why)
 
 -- ---- a value that is read
 

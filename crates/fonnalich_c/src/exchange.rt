@@ -4,8 +4,9 @@ ghost use Rattle.std.specs.Prelude.{IfOk, IfErr, OnOk};
 ghost use Rattle.std.specs.List.{flat_map};
 ghost use Rattle.cookie_client.specs.Ending.{placed};
 ghost use Rattle.cookie_client.specs.Jar.{TakesOut};
-ghost use Rattle.cookie_client.specs.RingSession.{KeepsRing, ReadsEnding, RingReadsIn, keyed};
+ghost use Rattle.cookie_client.specs.RingSession.{IsOpenedOnShown, KeepsRing, ReadsEnding, RingReadsIn, Ringed, keyed};
 ghost use Rattle.fonnalich_c.specs.Exchange as spec;
+ghost use Rattle.fonnalich_c.specs.Given.{lines_of};
 ghost use Rattle.fonnalich_c.specs.Items.{item};
 ghost use Rattle.fonnalich_c.specs.declared.command.RingCommand.TheVariants.{Kept};
 
@@ -41,10 +42,8 @@ pub(crate) fn exchange(
     let Ok(key) = Key::try_from(key) else {
         return Err(Refusal::Key);
     };
-    let lines = lines(alloc, commands)?;
     let ring = KeyRing::new(alloc, key);
-    let mut session = RingSession::open_shown(alloc, header, ring, now)?;
-    converse(alloc, &mut session, false, now, &lines, nonces)
+    converse_on(alloc, ring, false, header, now, commands, nonces)
 }
 
 /// The same on a ring of keys: beside the item of each value stands that of the place of its key.
@@ -64,9 +63,28 @@ pub(crate) fn ring_exchange(
 {
     let now = moment(second)?;
     let ring = ring_of(alloc, keys, ends)?;
+    converse_on(alloc, ring, true, header, now, commands, nonces)
+}
+
+// What a session with these keys on this header answers.
+fn converse_on(
+    alloc: Global,
+    ring: KeyRing,
+    on_ring: bool,
+    header: &[u8],
+    now: DateTime,
+    commands: &[u8],
+    nonces: &[u8],
+) -> Result<Vec<u8>, Refusal>
+    ensures ok { IfOk result (λ answer. (opened : Ringed) × IsOpenedOnShown ring now header.now opened
+        × spec.Answers on_ring opened now (lines_of commands.now) nonces.now answer.items) }
+    ensures err { IfErr result (λ refused. (refused ≡ Refusal.Memory)
+        ⊎ ((opened : Ringed) × IsOpenedOnShown ring now header.now opened
+        × spec.StopsAt on_ring opened now (lines_of commands.now) nonces.now refused)) }
+{
     let lines = lines(alloc, commands)?;
     let mut session = RingSession::open_shown(alloc, header, ring, now)?;
-    converse(alloc, &mut session, true, now, &lines, nonces)
+    converse(alloc, &mut session, on_ring, now, &lines, nonces)
 }
 
 // What an open session answers to the lines of its commands.
