@@ -138,8 +138,10 @@ unheaded rules request store refused (inr (inr why, first)) =
   where
     -- a moment's fault would be told before
     never : ¬ IsNoMoment request.second
-    never none = (subst (λ r. refusal_number refusal.Moment ≤ℤ refusal_number r) why.0
-    (first refusal.Moment (inl (refl, none)))).le
+    never none =
+        let nearer : refusal_number refusal.Moment ≤ℤ refusal_number refusal.Url =
+        subst (λ r. refusal_number refusal.Moment ≤ℤ refusal_number r) why.0 (first refusal.Moment (inl (refl, none))) in
+        nearer.le
 
 pub line_unheaded : (rules : Rules) (request : Request) (store : Store) (url : Parts) (page : Option Parts)
     (refused : Refusal) → ¬ IsNoMoment request.second → IsUrl request.url url

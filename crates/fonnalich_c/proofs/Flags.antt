@@ -1,5 +1,5 @@
 -- Flags in a signed number.
-use Rattle.std.proofs.Common.{◌≡◌, zero, suc, ℤ, pos, negsuc, ◌<ℤ◌, Some, refl, ap, arith, nat_abs}
+use Rattle.std.proofs.Common.{◌≡◌, ℤ, pos, negsuc, ◌<ℤ◌, ◌≤ℤ◌, refl, arith, nat_abs}
 use Rattle.jiff.proofs.SpanFacts.{signed_arith}
 use Rattle.user_agent.specs.declared.rules.Rules.{Rules}
 use Rattle.fonnalich_c.specs.Rules.{IsFlags, ruled}

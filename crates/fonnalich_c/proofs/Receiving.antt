@@ -37,8 +37,8 @@ as_many_for rules list rows url initiator now lines outcomes new (inr (isnt, tak
 -- what holds by whether the answer comes across sites
 by_request : (list : List Rule) (url : Parts) (initiator : Initiator) (across : Bool) (Holds : Bool → Type 0)
     → (IsTrue across ↔ ComesAcross list url initiator) → Holds across → ByRequest list url initiator Holds
-by_request list url initiator true Holds is holds = inl (is.0 tt, holds)
-by_request list url initiator false Holds is holds = inr (λ comes. is.1 comes, holds)
+by_request list url initiator true Holds is holds = inl (is.0 refl, holds)
+by_request list url initiator false Holds is holds = inr (λ comes. absurd (cc (is.1 comes)), holds)
 
 -- what becomes of it is told by its number
 pub one_line_told : (rules : Rules) (request : Request) (text : List ℕ) (old new : Store) (url : Parts)
@@ -53,12 +53,12 @@ one_line_told rules request text old new url initiator across now outcome number
     let by_line : ReceivesFor rules old.suffixes old.rows url initiator now (text ∷ []) (outcome ∷ []) new.rows =
     by_request old.suffixes url initiator across
     (λ across. TakesLinesFrom rules across old.suffixes old.rows url now (text ∷ []) (outcome ∷ []) new.rows) comes
-    (new.rows, taken, refl, refl) in
+    (new.rows, taken, (refl, refl)) in
     let by_lines = subst (λ lines. ReceivesFor rules old.suffixes old.rows url initiator now lines (outcome ∷ [])
     new.rows) (sym one) by_line in
     let by_moment = subst (λ n. ReceivesFor rules old.suffixes old.rows url initiator n (lines_of text) (outcome ∷ [])
     new.rows) moment by_lines in
-    (same, url, initiator, outcome ∷ [], at, started, by_moment, ap (λ n. n ∷ []) told)
+    (same, (url, initiator, outcome ∷ [], at, started, by_moment, ap (λ n. n ∷ []) told))
 
 -- memory was refused at it
 pub one_line_stopped : (rules : Rules) (request : Request) (text : List ℕ) (old new : Store) (url : Parts)
@@ -80,4 +80,4 @@ one_line_stopped rules request text old new url initiator across at started come
     })) in
     let by_lines = subst (λ lines. IsStoppedFor rules old.suffixes old.rows url initiator now lines 1 new.rows)
     (sym one) stops in
-    inr (1, refl, same, url, initiator, at, started, by_lines)
+    inr (1, refl, (same, (url, initiator, at, started, by_lines)))

@@ -8,16 +8,30 @@ use Rattle.fonnalich_c.specs.contracts.fonnalich_one as f
 abbrev pub stayed : Stays f.ended.signature.params f.ended.kept
 stayed = (
   stay_dropped _ yes,
-  stay_dropped _ yes,
-  stay_dropped _ yes,
-  stay_dropped _ yes,
-  stay_dropped _ yes,
-  stay_dropped _ yes,
-  stay_dropped _ yes,
-  record {
-    fit = λ κs x w. Unit {0};
-    has = λ κs x w vs. left (((mut_slice_of {n = 4} (3 ∷
-        []) tt (plain (λ _. u8))).row κs).exit yes) x w;
-  },
-  tt,
+  (
+    stay_dropped _ yes,
+    (
+      stay_dropped _ yes,
+      (
+        stay_dropped _ yes,
+        (
+          stay_dropped _ yes,
+          (
+            stay_dropped _ yes,
+            (
+              stay_dropped _ yes,
+              (
+                record {
+                  fit = λ κs x w. Unit {0};
+                  has = λ κs x w vs. left (((mut_slice_of {n = 4} (3 ∷
+                      []) tt (plain (λ _. u8))).row κs).exit yes) x w;
+                },
+                tt,
+              ),
+            ),
+          ),
+        ),
+      ),
+    ),
+  ),
 )

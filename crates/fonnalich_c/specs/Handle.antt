@@ -8,6 +8,7 @@ use Rattle.fonnalich_c.specs.Started.{start_of}
 use Rattle.user_agent.specs.Refusals.{browser_rules}
 use Rattle.user_agent.specs.declared.rules.Rules.{Rules}
 use Rattle.fonnalich_c.specs.Tasks.{Given, State, Makes, Fails}
+use Rattle.fonnalich_c.specs.declared.held.Held.{Held as Stored}
 use Rattle.fonnalich_c.specs.declared.refusal.Refusal.{Refusal}
 use Rattle.fonnalich_c.specs.declared.refusal.Refusal.TheVariants as refusal
 use Rattle.fonnalich_c.specs.declared.word.Word.{Word}
@@ -19,6 +20,10 @@ pub record Held : Type 0 where
   pub list : Option (List Rule)
   pub rules : Rules
   pub kept : List ℕ
+
+-- of all that stands in it
+abbrev pub view : Stored → Held
+view h = record { client = h.client; list = h.list; rules = h.browsing.rules; kept = h.kept.items }
 
 -- it begins behind the rules of browsers
 abbrev pub IsFresh : Held → Type 0

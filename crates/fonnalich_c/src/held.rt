@@ -18,38 +18,24 @@ use crate::word::{ANSWER, Task, Word};
 use cookie_client::Client;
 use publicsuffix::List;
 use std::alloc::Global;
-use std::marker::Model;
 use user_agent::Rules;
 
 /// What a handle holds.
 #[derive(Drop)]
 pub struct Held {
     /// The client, once there is one.
-    client: Option<Client>,
+    pub client: Option<Client>,
     /// The list that it keeps for clients of this handle and of others.
-    list: Option<List>,
+    pub list: Option<List>,
     /// What it knows beside.
-    browsing: Browsing,
+    pub browsing: Browsing,
     /// The answer that had no room.
-    kept: Vec<u8>,
-}
-
-impl Model for Held {
-    ghost use Rattle.fonnalich_c.specs.Handle.{Held};
-
-    ghost Value = { Held };
-
-    ghost view = { λ h. record {
-      client = h.client;
-      list = h.list;
-      rules = h.browsing.rules;
-      kept = h.kept.items;
-    } };
+    pub kept: Vec<u8>,
 }
 
 /// What a new handle holds: the rules of browsers alone.
 pub(crate) fn fresh(alloc: Global) -> Held
-    ensures { spec.IsFresh result }
+    ensures { spec.IsFresh (spec.view result) }
 {
     Held {
         client: None,
@@ -79,8 +65,8 @@ pub(crate) fn work(
     out: &mut [u8],
 ) -> isize
     ensures { spec.Acts word
-        (record { number = number; subject = subject.now; page = text.now; text = text.now }) held.old out.old
-        held.new out.new result }
+        (record { number = number; subject = subject.now; page = text.now; text = text.now }) (spec.view held.old) out.old
+        (spec.view held.new) out.new result }
 {
     if word == ANSWER {
         return hand_out(&mut held.kept, out);
@@ -106,8 +92,8 @@ pub(crate) fn receive_for(
     out: &mut [u8],
 ) -> isize
     ensures { spec.ActsOnReceipt started
-        (record { number = second; subject = url.now; page = page.now; text = lines.now }) held.old out.old
-        held.new out.new result }
+        (record { number = second; subject = url.now; page = page.now; text = lines.now }) (spec.view held.old) out.old
+        (spec.view held.new) out.new result }
 {
     let given = Given {
         number: second,
@@ -130,7 +116,7 @@ fn act(
     given: &Given<'_>,
     out: &mut [u8],
 ) -> isize
-    ensures { spec.ActsBy word given.now held.old out.old held.new out.new result }
+    ensures { spec.ActsBy word given.now (spec.view held.old) out.old (spec.view held.new) out.new result }
 {
     if let Some(Word::Ask(Task::Receive(start))) = word {
         if !out.is_empty() && is_one_line(given.text) {
@@ -163,7 +149,7 @@ fn take_line(
 ) -> isize
     requires one { lines_of given.now.text ≡ given.now.text ∷ [] }
     requires room { out.old ≢ [] }
-    ensures { spec.ActsBy (Some (receive_word start)) given.now held.old out.old held.new out.new result }
+    ensures { spec.ActsBy (Some (receive_word start)) given.now (spec.view held.old) out.old (spec.view held.new) out.new result }
 {
     match line_number(alloc, &mut held.client, &mut held.browsing, start, given) {
         Ok(number) => {
@@ -197,7 +183,7 @@ fn line_number(
 
 /// Has a handle keep the list that another keeps, which stays as it is.
 pub(crate) fn share(held: &mut Held, other: &mut Held) -> isize
-    ensures { spec.Shares other.old.list held.old held.new result × (other.new ≡ other.old) }
+    ensures { spec.Shares other.old.list (spec.view held.old) (spec.view held.new) result × (other.new ≡ other.old) }
 {
     match shared(&other.list) {
         Ok(list) => {
@@ -230,7 +216,7 @@ pub(crate) fn pick_one(
     name: &[u8],
     out: &mut [u8],
 ) -> isize
-    ensures { ActsOnOne word second (key domain.now path.now name.now) held.old out.old held.new out.new result }
+    ensures { ActsOnOne word second (key domain.now path.now name.now) (spec.view held.old) out.old (spec.view held.new) out.new result }
 {
     let texts = Key { domain, path, name };
     match told(alloc, &mut held.client, Pick::of(word), second, texts) {

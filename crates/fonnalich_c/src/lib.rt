@@ -10,7 +10,7 @@ ghost use base.Fml.{fex, fsep, ftrue};
 ghost use Rattle.std.specs.Ptr.{points_to, room_at};
 ghost use Rattle.cookie_store.specs.Rows.{key};
 ghost use Rattle.fonnalich_c.specs.Exchange.{IsExchange, IsNoExchange, IsRingExchange, IsNoRingExchange};
-ghost use Rattle.fonnalich_c.specs.Handle.{IsFresh, Acts, ActsOnReceipt, Shares};
+ghost use Rattle.fonnalich_c.specs.Handle.{IsFresh, Acts, ActsOnReceipt, Shares, view};
 ghost use Rattle.fonnalich_c.specs.One.{ActsOnOne};
 ghost use Rattle.fonnalich_c.specs.Plain.{TellsPlain};
 ghost use Rattle.fonnalich_c.specs.Parts.{GivesParts, IsPrinted, IsUnprinted};
@@ -99,7 +99,7 @@ pub extern "C" fn fonnalich_text(number: i64, out: &mut [u8]) -> isize
 pub unsafe extern "C" fn fonnalich_place(alloc: Global, at: *mut u8)
     requires* { sem 𝓛 (room_at held.the_row at) }
     ensures* { sem 𝓛 (fex held.the_row.Denot (λ w. fsep
-        (fex (IsFresh w) (λ _. ftrue)) (points_to held.the_row at w))) }
+        (fex (IsFresh (view w)) (λ _. ftrue)) (points_to held.the_row at w))) }
 {
     let place = at as *mut Held;
     place.write(fresh(alloc));
@@ -119,8 +119,8 @@ pub unsafe extern "C" fn fonnalich_act(
     ghost value: { Held }
     requires* { sem 𝓛 (points_to held.the_row at value) }
     ensures* { sem 𝓛 (fex held.the_row.Denot (λ w. fsep
-        (fex (Acts word (record { number = number; subject = subject.now; page = text.now; text = text.now }) value
-        out.old w out.new result) (λ _. ftrue))
+        (fex (Acts word (record { number = number; subject = subject.now; page = text.now; text = text.now }) (view value)
+        out.old (view w) out.new result) (λ _. ftrue))
         (points_to held.the_row at w))) }
 {
     work(
@@ -150,7 +150,8 @@ pub unsafe extern "C" fn fonnalich_one(
     ghost value: { Held }
     requires* { sem 𝓛 (points_to held.the_row at value) }
     ensures* { sem 𝓛 (fex held.the_row.Denot (λ w. fsep
-        (fex (ActsOnOne word second (key domain.now path.now name.now) value out.old w out.new result) (λ _. ftrue))
+        (fex (ActsOnOne word second (key domain.now path.now name.now) (view value) out.old (view w) out.new
+        result) (λ _. ftrue))
         (points_to held.the_row at w))) }
 {
     pick_one(
@@ -186,8 +187,8 @@ pub unsafe extern "C" fn fonnalich_receive_for(
     requires* { sem 𝓛 (points_to held.the_row at value) }
     ensures* { sem 𝓛 (fex held.the_row.Denot (λ w. fsep
         (fex (ActsOnReceipt started
-        (record { number = second; subject = url.now; page = page.now; text = lines.now }) value out.old w out.new
-        result) (λ _. ftrue))
+        (record { number = second; subject = url.now; page = page.now; text = lines.now }) (view value) out.old
+        (view w) out.new result) (λ _. ftrue))
         (points_to held.the_row at w))) }
 {
     receive_for(
@@ -209,7 +210,7 @@ pub unsafe extern "C" fn fonnalich_share(at: *mut u8, other: *mut u8) -> isize
     ghost values: { Held × Held }
     requires* { sem 𝓛 (fsep (points_to held.the_row at values.0) (points_to held.the_row other values.1)) }
     ensures* { sem 𝓛 (fex held.the_row.Denot (λ w. fsep
-        (fex (Shares values.1.list values.0 w result) (λ _. ftrue))
+        (fex (Shares values.1.list (view values.0) (view w) result) (λ _. ftrue))
         (fsep (points_to held.the_row at w) (points_to held.the_row other values.1)))) }
 {
     share(&mut *(at as *mut Held), &mut *(other as *mut Held))

@@ -58,7 +58,7 @@ pub(crate) fn answer(
             Ok(Vec::new(alloc))
         }
         Some(Word::Load) => {
-            let loaded = loaded(alloc, given.number, given.subject, given.text)?;
+            let loaded = loaded(alloc, given)?;
             *client = Some(loaded);
             Ok(Vec::new(alloc))
         }
@@ -107,12 +107,12 @@ fn first(alloc: Global, text: &[u8]) -> Result<Client, Refusal>
 }
 
 // A client of a saved text, with the suffix list of another.
-fn loaded(alloc: Global, second: i64, saved: &[u8], text: &[u8]) -> Result<Client, Refusal>
-    ensures ok { IfOk result (spec.IsLoaded second saved.now text.now) }
-    ensures err { IfErr result (spec.IsNoLoad second saved.now text.now) }
+fn loaded(alloc: Global, given: &Given<'_>) -> Result<Client, Refusal>
+    ensures ok { IfOk result (spec.IsLoaded given.now.number given.now.subject given.now.text) }
+    ensures err { IfErr result (spec.IsNoLoad given.now.number given.now.subject given.now.text) }
 {
-    let list = list(alloc, text)?;
-    loaded_by(alloc, second, saved, list)
+    let list = list(alloc, given.text)?;
+    loaded_by(alloc, given.number, given.subject, list)
 }
 
 /// A client of a saved text, with this list.

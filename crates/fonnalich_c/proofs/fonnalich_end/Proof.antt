@@ -43,8 +43,7 @@ fonnalich_end_spec {M} 𝓤 𝓛 𝓜 𝓡 wired =
         qs,
         bounds,
         (p, tt),
-        rawptr_vals p,
-        tt,
+        (rawptr_vals p, tt),
       ),
       n,
     )))) e refl $
@@ -56,7 +55,7 @@ fonnalich_end_spec {M} 𝓤 𝓛 𝓜 𝓡 wired =
     sets ! (of_opd ! (get ! refl)) refl (tt, tt) $
     sets ! (of_opd ! (load ! (through ! refl (stop !)) (look ! 1 refl))) refl good $
     let G = triple_of 𝓛 g.signature (g.spec 𝓛 𝓜.mem 𝓡.returns) in
-    let z : G.Ghost = ((κs, qs, bounds, (n, tt), v ∷ [], tt), tt) in
+    let z : G.Ghost = ((κs, qs, bounds, (n, tt), (v ∷ [], tt)), tt) in
     nothing ! $ move ! (1 ∷ 0 ∷ []) $ fjoin ! $ nothing ! $ join ! $ nothing ! $ move ! (1 ∷ 0 ∷ []) $ use2 𝓛 (raw
     (G.pre z)) (id⊢ 𝓤 _) $
     calls_at ! (framed 𝓤 𝓛.H 𝓜 𝓣) G (met 𝓤 𝓛 𝓜 𝓡 (code.calls-fonnalich_c::held::let_go 𝓡.env wired)) z (and_then !
@@ -74,8 +73,10 @@ fonnalich_end_spec {M} 𝓤 𝓛 𝓜 𝓡 wired =
         qs,
         bounds,
         (block_ptr b o, tt),
-        rawptr_vals (block_ptr b o),
-        tt,
+        (
+          rawptr_vals (block_ptr b o),
+          tt,
+        ),
       ),
       n,
     ) vunit tt (tt, tt) (tt, tt)) $

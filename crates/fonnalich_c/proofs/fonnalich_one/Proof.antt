@@ -35,6 +35,7 @@ use Rattle.std.specs.Ptr.{points_to}
 use Rattle.std.specs.contracts.alloc.Global as Global
 use Rattle.std.proofs.alloc.Global.TheLaws as GlobalLaws
 use Rattle.cookie_store.specs.Rows.{key}
+use Rattle.fonnalich_c.specs.Handle.{view}
 use Rattle.fonnalich_c.specs.One.{ActsOnOne}
 use Rattle.fonnalich_c.specs.contracts.held.Held as held
 use Rattle.fonnalich_c.specs.contracts.fonnalich_one as f
@@ -49,41 +50,71 @@ fonnalich_one_spec {M} 𝓤 𝓛 𝓜 𝓡 wired =
     let c = f.clauses 𝓛 𝓜.mem 𝓡.returns in let W = walk_of 𝓛 f.ended stayed c in let 𝓣 = tables 𝓤 𝓛.H 𝓜 𝓡 𝓡.env in
     proved 𝓛 f.ended stayed c 𝓜 𝓡 (
       Goes-dropped 𝓛 4 (plain (λ _. Global.the_row)) yes (λ κs x w. refl),
-      Goes-dropped 𝓛 4 (plain (λ _. RawPtr)) yes (λ κs x w. refl),
-      Goes-dropped 𝓛 4 (plain (λ _. u32)) yes (λ κs x w. refl),
-      Goes-dropped 𝓛 4 (plain (λ _. i64)) yes (λ κs x w. refl),
-      Goes-dropped 𝓛 4 (shr_slice_of (0 ∷ []) tt (plain (λ _. u8))) yes (λ κs x w. refl),
-      Goes-dropped 𝓛 4
-          (shr_slice_of (1 ∷ []) tt (plain (λ _. u8))) yes (λ κs x w. refl),
-      Goes-dropped 𝓛 4
-          (shr_slice_of (2 ∷ []) tt (plain (λ _. u8))) yes (λ κs x w. refl),
-      (λ κs x w vs fits.
-          𝓛.laws.⇛_intro _),
-      tt,
+      (
+        Goes-dropped 𝓛 4 (plain (λ _. RawPtr)) yes (λ κs x w. refl),
+        (
+          Goes-dropped 𝓛 4 (plain (λ _. u32)) yes (λ κs x w. refl),
+          (
+            Goes-dropped 𝓛 4 (plain (λ _. i64)) yes (λ κs x w. refl),
+            (
+              Goes-dropped 𝓛 4 (shr_slice_of (0 ∷ []) tt (plain (λ _. u8))) yes (λ κs x w. refl),
+              (
+                Goes-dropped 𝓛 4
+                    (shr_slice_of (1 ∷ []) tt (plain (λ _. u8))) yes (λ κs x w. refl),
+                (
+                  Goes-dropped 𝓛 4
+                      (shr_slice_of (2 ∷ []) tt (plain (λ _. u8))) yes (λ κs x w. refl),
+                  (
+                    (λ κs x w vs fits.
+                        𝓛.laws.⇛_intro _),
+                    tt,
+                  ),
+                ),
+              ),
+            ),
+          ),
+        ),
+      ),
     )
     f.Key.name code.function (code.unfolded 𝓤 𝓛.H 𝓜 𝓡 wired)
     (λ κs. (
       Laws.vals Global.the_type GlobalLaws.the_laws,
-      rawptr_vals,
-      uint_vals w32,
-      sint_vals w64,
-      shr_slice_vals,
-      shr_slice_vals,
-      shr_slice_vals,
-      mut_slice_vals,
-      tt,
+      (
+        rawptr_vals,
+        (
+          uint_vals w32,
+          (
+            sint_vals w64,
+            (shr_slice_vals, (shr_slice_vals, (shr_slice_vals, (mut_slice_vals, tt)))),
+          ),
+        ),
+      ),
     ))
     (λ κs. (
       Laws.tells Global.the_type GlobalLaws.the_laws,
-      rawptr_Tells,
-      uint_Tells w32,
-      sint_Tells w64,
-      shr_slice_Tells (named 0) κs.0 u8,
-      shr_slice_Tells (named 1) κs.1.0 u8,
-      shr_slice_Tells (named 2) κs.1.1.0 u8,
-      mut_slice_Tells (named 3)
-          κs.1.1.1.0 u8,
-      tt,
+      (
+        rawptr_Tells,
+        (
+          uint_Tells w32,
+          (
+            sint_Tells w64,
+            (
+              shr_slice_Tells (named 0) κs.0 u8,
+              (
+                shr_slice_Tells (named 1) κs.1.0 u8,
+                (
+                  shr_slice_Tells (named 2) κs.1.1.0 u8,
+                  (
+                    mut_slice_Tells (named 3)
+                        κs.1.1.1.0 u8,
+                    tt,
+                  ),
+                ),
+              ),
+            ),
+          ),
+        ),
+      ),
     )) (λ κs qs bounds a n are.
     let gv = Laws.vals Global.the_type GlobalLaws.the_laws a.0 in let wv = uint_vals w32 a.1.1.0 in let sv =
     sint_vals w64 a.1.1.1.0 in
@@ -92,25 +123,39 @@ fonnalich_one_spec {M} 𝓤 𝓛 𝓜 𝓡 wired =
     let R = held.the_row in
     let Acted : R.Denot → List ℕ → ℤ → Type 0 = λ w o r. ActsOnOne a.1.1.0 a.1.1.1.0
     (key a.1.1.1.1.0.now a.1.1.1.1.1.0.now a.1.1.1.1.1.1.0.now)
-    n
-    a.1.1.1.1.1.1.1.0.now w
+    (view n)
+    a.1.1.1.1.1.1.1.0.now (view w)
     o r in
     let Held : ℕ → ℕ × ℕ → GName → R.Denot → Fml = λ α p γ x. (MutRef (named 0) (α ∷ []) R).own_val (record {
       ref_ptr = p;
       ghost_name = γ;
       now = x;
     }) (vptr p.0 p.1 ∷ []) in
-    let args : Ptr → Args f.signature κs = λ p. (a.0, p, a.1.1) in
+    let args : Ptr → Args f.signature κs = λ p. (a.0, (p, a.1.1)) in
     let vals : Ptr → Valss (types_at f.signature.params κs) = λ p. (
       gv,
-      rawptr_vals p,
-      wv,
-      sv,
-      uv,
-      lv,
-      nv,
-      ov,
-      tt,
+      (
+        rawptr_vals p,
+        (
+          wv,
+          (
+            sv,
+            (
+              uv,
+              (
+                lv,
+                (
+                  nv,
+                  (
+                    ov,
+                    tt,
+                  ),
+                ),
+              ),
+            ),
+          ),
+        ),
+      ),
     ) in
     qed 𝓛 (raw (on_entry 𝓛 f.signature κs qs a (vals a.1.0)) ∷ ‵ (points_to held.the_row a.1.0 n) ∷ []) ∵ move ! (1
     ∷ []) $
@@ -121,17 +166,31 @@ fonnalich_one_spec {M} 𝓤 𝓛 𝓜 𝓡 wired =
     move ! (1 ∷ []) $
     enter ! _ _ _ _ _ $ alloc_all ! (λ l. pass_all ! refl (
       ((Loose.loose_lawful Global.the_type GlobalLaws.the_loose 𝓛).typed a.0 _ are.0).0,
-      (tt, tt),
-      ((uint_Lawful 𝓛 w32).typed a.1.1.0 _ are.1.1.0).0,
-      ((sint_Lawful 𝓛 w64).typed a.1.1.1.0 _ are.1.1.1.0).0,
-      ((shr_slice_Lawful 𝓛 (named 0) κs.0 u8).typed a.1.1.1.1.0 _ are.1.1.1.1.0).0,
-      ((shr_slice_Lawful 𝓛
-          (named 1) κs.1.0 u8).typed a.1.1.1.1.1.0 _ are.1.1.1.1.1.0).0,
-      ((shr_slice_Lawful 𝓛
-          (named 2) κs.1.1.0 u8).typed a.1.1.1.1.1.1.0 _ are.1.1.1.1.1.1.0).0,
-      ((mut_slice_Lawful 𝓛 (named 3)
-          κs.1.1.1.0 u8).typed a.1.1.1.1.1.1.1.0 _ are.1.1.1.1.1.1.1.0).0,
-      tt,
+      (
+        (tt, tt),
+        (
+          ((uint_Lawful 𝓛 w32).typed a.1.1.0 _ are.1.1.0).0,
+          (
+            ((sint_Lawful 𝓛 w64).typed a.1.1.1.0 _ are.1.1.1.0).0,
+            (
+              ((shr_slice_Lawful 𝓛 (named 0) κs.0 u8).typed a.1.1.1.1.0 _ are.1.1.1.1.0).0,
+              (
+                ((shr_slice_Lawful 𝓛
+                    (named 1) κs.1.0 u8).typed a.1.1.1.1.1.0 _ are.1.1.1.1.1.0).0,
+                (
+                  ((shr_slice_Lawful 𝓛
+                      (named 2) κs.1.1.0 u8).typed a.1.1.1.1.1.1.0 _ are.1.1.1.1.1.1.0).0,
+                  (
+                    ((mut_slice_Lawful 𝓛 (named 3)
+                        κs.1.1.1.0 u8).typed a.1.1.1.1.1.1.1.0 _ are.1.1.1.1.1.1.1.0).0,
+                    tt,
+                  ),
+                ),
+              ),
+            ),
+          ),
+        ),
+      ),
     ) $
     lft_new ! tt (λ α. move ! (2 ∷ 0 ∷ []) $
     use1 𝓛 (later (some (λ (γ : GName). ‵ (Held α (b, o) γ n) ⊛ ‵ (flent (α ∷ []) (Body (mem R) b o γ)))))
@@ -143,25 +202,23 @@ fonnalich_one_spec {M} 𝓤 𝓛 𝓜 𝓡 wired =
     sets ! (agg ! (and_then ! (get ! refl) (and_then ! (get_in ! (fld ! refl (stop !)) (sub ! 1 refl (whole !)))
     (no_more !)))) refl ((mut_slice_Lawful 𝓛 (named 3) κs.1.1.1.0 u8).typed a.1.1.1.1.1.1.1.0 _
     are.1.1.1.1.1.1.1.0).0 $
-    let κ5 : Lfts 5 = (α ∷ [], κs.0, κs.1.0, κs.1.1.0, κs.1.1.1.0, tt) in
+    let κ5 : Lfts 5 = (α ∷ [], (κs.0, (κs.1.0, (κs.1.1.0, (κs.1.1.1.0, tt))))) in
     let G = triple_of 𝓛 g.signature (g.spec 𝓛 𝓜.mem 𝓡.returns) in
     let loan : MutBor R.Denot = record { ref_ptr = (b, o); ghost_name = γ; now = n } in
     let z : G.Ghost = (
       (
         κ5,
-        (full_share, qs.0, qs.1.0, qs.1.1.0, qs.1.1.1.0, tt),
+        (full_share, (qs.0, (qs.1.0, (qs.1.1.0, (qs.1.1.1.0, tt))))),
         tt,
-        (a.0, loan, a.1.1),
-        gv,
-        vptr b
-            o ∷ [],
-        wv,
-        sv,
-        uv,
-        lv,
-        nv,
-        ov,
-        tt,
+        (a.0, (loan, a.1.1)),
+        (
+          gv,
+          (
+            vptr b
+                o ∷ [],
+            (wv, (sv, (uv, (lv, (nv, (ov, tt)))))),
+          ),
+        ),
       ),
       tt,
     ) in
@@ -175,7 +232,7 @@ fonnalich_one_spec {M} 𝓤 𝓛 𝓜 𝓡 wired =
     (and_then ! (get ! refl) (and_then ! (get ! refl) (and_then ! (get ! refl) (and_then ! (get ! refl) (and_then !
     (get ! refl) (and_then ! (get ! refl) (and_then ! (get ! refl) (and_then ! (get ! refl) (no_more !))))))))) (λ v.
     use1 𝓛 (later (some (λ (r : ℤ). ((‵ (flft (α ∷ []) full_share) ⊛ toks) ⊛ ‵ (i64.own_val r (v ∷ []))) ⊛
-    some (λ (ws : Lasts g.ended κ5 (a.0, loan, a.1.1)). ‵ (lasts g.ended κ5 (a.0, loan, a.1.1) ws) ⊛ raw (fact
+    some (λ (ws : Lasts g.ended κ5 (a.0, (loan, a.1.1))). ‵ (lasts g.ended κ5 (a.0, (loan, a.1.1)) ws) ⊛ raw (fact
     𝓤 (Acted ws.1.0 ws.1.1.1.1.1.1.1.0 r)))))) (id⊢ 𝓤 _) $
     await ! tt $ pick ! (λ r. split ! $ split ! $ split ! $ lft_end ! tt $
     -- [α is over; the other tokens; the result; what the callee leaves; what the lender keeps]
@@ -191,16 +248,30 @@ fonnalich_one_spec {M} 𝓤 𝓛 𝓜 𝓡 wired =
     await ! tt $ move ! (3 ∷ []) $ drop ! $
     returns ! (look_at ! 0 refl) $ free_all ! refl $
     suffices ! _ (ends_at 𝓛 f.ended stayed c ((κs, qs, bounds, args (block_ptr b o), vals (block_ptr b o)), n) v r
-    (tt, tt, tt, tt, tt, tt, tt, ws.1.1.1.1.1.1.1.0, tt) (
+    (tt, (tt, (tt, (tt, (tt, (tt, (tt, (ws.1.1.1.1.1.1.1.0, tt)))))))) (
       tt,
-      tt,
-      tt,
-      tt,
-      tt,
-      tt,
-      tt,
-      tt,
-      tt,
+      (
+        tt,
+        (
+          tt,
+          (
+            tt,
+            (
+              tt,
+              (
+                tt,
+                (
+                  tt,
+                  (
+                    tt,
+                    tt,
+                  ),
+                ),
+              ),
+            ),
+          ),
+        ),
+      ),
     )) $
     use1 𝓛 (‵ (points_to R (block_ptr b o) ws.1.0)) (id⊢ 𝓤 _) $ nothing ! $ fpack ! (Acted ws.1.0 ws.1.1.1.1.1.1.1.0
     r) (λ _. ftrue) acts $ fjoin ! $

@@ -28,7 +28,7 @@ use mir.Val.{vptr}
 use denote.Signed.{sint_Lawful}
 use base.Fraction.{full_share}
 use Rattle.std.specs.Ptr.{points_to}
-use Rattle.fonnalich_c.specs.Handle.{Shares}
+use Rattle.fonnalich_c.specs.Handle.{Shares, view}
 use Rattle.fonnalich_c.specs.contracts.held.Held as held
 use Rattle.fonnalich_c.specs.contracts.fonnalich_share as f
 use Rattle.fonnalich_c.specs.contracts.held.share as g
@@ -37,29 +37,28 @@ use Rattle.fonnalich_c.proofs.fonnalich_share.Statement.{statement}
 use Rattle.fonnalich_c.proofs.fonnalich_share.Code as code
 
 abbrev stayed : Stays f.ended.signature.params f.ended.kept
-stayed = (stay_dropped _ yes, stay_dropped _ yes, tt)
+stayed = (stay_dropped _ yes, (stay_dropped _ yes, tt))
 
 pub fonnalich_share_spec : {M : Type 1} → statement M
 fonnalich_share_spec {M} 𝓤 𝓛 𝓜 𝓡 wired =
     let c = f.clauses 𝓛 𝓜.mem 𝓡.returns in let W = walk_of 𝓛 f.ended stayed c in let 𝓣 = tables 𝓤 𝓛.H 𝓜 𝓡 𝓡.env in
     proved 𝓛 f.ended stayed c 𝓜 𝓡 (
       Goes-dropped 𝓛 0 (plain (λ _. RawPtr)) yes (λ κs x w. refl),
-      Goes-dropped 𝓛 0 (plain (λ _. RawPtr)) yes (λ κs x w. refl),
-      tt,
+      (Goes-dropped 𝓛 0 (plain (λ _. RawPtr)) yes (λ κs x w. refl), tt),
     )
     f.Key.name code.function (code.unfolded 𝓤 𝓛.H 𝓜 𝓡 wired)
-    (λ κs. (rawptr_vals, rawptr_vals, tt)) (λ κs. (rawptr_Tells, rawptr_Tells, tt)) (λ κs qs bounds a n are.
+    (λ κs. (rawptr_vals, (rawptr_vals, tt))) (λ κs. (rawptr_Tells, (rawptr_Tells, tt))) (λ κs qs bounds a n are.
     let R = held.the_row in
     let Shared : R.Denot → ℤ → Type 0 = λ w r. Shares n.1.list
-    n.0
-    w r in
+    (view n.0)
+    (view w) r in
     let Held : ℕ → ℕ × ℕ → GName → R.Denot → Fml = λ α p γ x. (MutRef (named 0) (α ∷ []) R).own_val (record {
       ref_ptr = p;
       ghost_name = γ;
       now = x;
     }) (vptr p.0 p.1 ∷ []) in
-    let args : Ptr → Ptr → Args f.signature κs = λ p q. (p, q, tt) in
-    let vals : Ptr → Ptr → Valss (types_at f.signature.params κs) = λ p q. (rawptr_vals p, rawptr_vals q, tt) in
+    let args : Ptr → Ptr → Args f.signature κs = λ p q. (p, (q, tt)) in
+    let vals : Ptr → Ptr → Valss (types_at f.signature.params κs) = λ p q. (rawptr_vals p, (rawptr_vals q, tt)) in
     qed 𝓛 (raw (on_entry 𝓛 f.signature κs qs a (vals a.0 a.1.0))
     ∷ ‵ (fsep (points_to R a.0 n.0) (points_to R a.1.0 n.1)) ∷ []) ∵ drop ! $ fsplit ! $
     in_a_block ! a.0 (λ p. points_to R p n.0) (id⊢ 𝓤 _) (λ b o e.
@@ -72,7 +71,7 @@ fonnalich_share_spec {M} 𝓤 𝓛 𝓜 𝓡 wired =
     use1 𝓛 (‵ ((mem R).own_at n.1 d i)) (id⊢ 𝓤 _) $ move ! (1 ∷ []) $
     use1 𝓛 (‵ ((mem R).own_at n.0 b o)) (id⊢ 𝓤 _) $
     -- [what lies at the one; what lies at the other]
-    enter ! _ _ _ _ _ $ alloc_all ! (λ l. pass_all ! refl ((tt, tt), (tt, tt), tt) $
+    enter ! _ _ _ _ _ $ alloc_all ! (λ l. pass_all ! refl ((tt, tt), ((tt, tt), tt)) $
     lft_new ! tt (λ α. move ! (1 ∷ []) $
     use1 𝓛 (later (some (λ (γ : GName). ‵ (Held α (b, o) γ n.0) ⊛ ‵ (flent (α ∷ []) (Body (mem R) b o γ)))))
     (lends_ref 𝓛 R (named 0) (α ∷ []) n.0 b o) $ await ! tt $ pick ! (λ γ. split ! $
@@ -85,12 +84,12 @@ fonnalich_share_spec {M} 𝓤 𝓛 𝓜 𝓡 wired =
     sets ! (addr ! (through ! refl (stop !))) refl (tt, tt) $
     sets ! (of_opd ! (get ! refl)) refl (tt, tt) $
     sets ! (addr ! (through ! refl (stop !))) refl (tt, tt) $
-    let κ2 : Lfts 2 = (α ∷ [], β ∷ [], tt) in
+    let κ2 : Lfts 2 = (α ∷ [], (β ∷ [], tt)) in
     let G = triple_of 𝓛 g.signature (g.spec 𝓛 𝓜.mem 𝓡.returns) in
     let loan : MutBor R.Denot = record { ref_ptr = (b, o); ghost_name = γ; now = n.0 } in
     let other : MutBor R.Denot = record { ref_ptr = (d, i); ghost_name = δ; now = n.1 } in
     let z : G.Ghost = (
-      (κ2, (full_share, full_share, tt), tt, (loan, other, tt), vptr b o ∷ [], vptr d i ∷ [], tt),
+      (κ2, (full_share, (full_share, tt)), tt, (loan, (other, tt)), (vptr b o ∷ [], (vptr d i ∷ [], tt))),
       tt,
     ) in
     nothing ! $ move ! (1 ∷ 0 ∷ []) $ fjoin ! $ move ! (3 ∷ 0 ∷ []) $ fjoin ! $
@@ -100,7 +99,7 @@ fonnalich_share_spec {M} 𝓤 𝓛 𝓜 𝓡 wired =
     (and_then ! (get ! refl) (and_then ! (get ! refl) (no_more !))) (λ v.
     use1 𝓛 (later (some (λ (r : ℤ). ((‵ (flft (α ∷ []) full_share) ⊛ ‵ (flft (β ∷ []) full_share) ⊛ ‵ ftrue)
     ⊛ ‵ (i64.own_val r (v ∷ []))) ⊛
-    some (λ (ws : Lasts g.ended κ2 (loan, other, tt)). ‵ (lasts g.ended κ2 (loan, other, tt) ws) ⊛ raw (fact
+    some (λ (ws : Lasts g.ended κ2 (loan, (other, tt))). ‵ (lasts g.ended κ2 (loan, (other, tt)) ws) ⊛ raw (fact
     𝓤 (Shared ws.0 r × (ws.1.0 ≡ n.1))))))) (id⊢ 𝓤 _) $
     await ! tt $ pick ! (λ r. split ! $ split ! $ split ! $ lft_end ! tt $
     move ! (1 ∷ []) $ split ! $ lft_end ! tt $
@@ -128,7 +127,7 @@ fonnalich_share_spec {M} 𝓤 𝓛 𝓜 𝓡 wired =
         vals (block_ptr b o) (block_ptr d i),
       ),
       n,
-    ) v r (tt, tt, tt) (tt, tt, tt)) $
+    ) v r (tt, (tt, tt)) (tt, (tt, tt))) $
     use1 𝓛 (‵ (points_to R (block_ptr d i) ws.1.0)) (id⊢ 𝓤 _) $
     rewrite ! 0 (λ x. ‵ (points_to R (block_ptr d i) x)) acts.1 refl $ move ! (1 ∷ []) $
     use1 𝓛 (‵ (points_to R (block_ptr b o) ws.0)) (id⊢ 𝓤 _) $ fjoin ! $
