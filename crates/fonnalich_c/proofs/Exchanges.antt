@@ -1,5 +1,5 @@
 -- The lines of an exchange, one after another.
-use Rattle.std.proofs.Common.{◌≡◌, ◌⊎◌, ℕ, ℤ, ◌+◌, ◌<◌, List, [], ◌∷◌, ◌++◌, length, map, take, drop, get_or}
+use Rattle.std.proofs.Common.{◌≡◌, ℕ, ℤ, ◌+◌, ◌<◌, List, [], ◌∷◌, ◌++◌, length, map, take, drop, get_or}
 use Rattle.std.proofs.Common.{inl, inr, refl, sym, ap, subst, ◌∙◌, append_assoc, Result, Ok, Err}
 use Rattle.std.proofs.lemmas.List.{append-nil, drop_more, map-append, take-append-drop, take_more}
 use Rattle.std.specs.Prelude.{IfErr, OnOk, Bool, Some}
@@ -26,8 +26,8 @@ fault_gives (Err e) P Q f h = f e h
 
 -- ---- the lines
 
-all_more : (on_ring : Bool) (old mid new : Ringed) (now : DateTime) (nonces between left : List ℕ) (lines : List (List ℕ))
-    (line told text : List ℕ) → AllTell on_ring old now nonces lines told mid between
+all_more : (on_ring : Bool) (old mid new : Ringed) (now : DateTime) (nonces between left : List ℕ)
+    (lines : List (List ℕ)) (line told text : List ℕ) → AllTell on_ring old now nonces lines told mid between
     → LineTells on_ring mid now between line text new left
     → AllTell on_ring old now nonces (lines ++ line ∷ []) (told ++ text) new left
 all_more on_ring old mid new now nonces between left [] line told text all one = (
@@ -56,8 +56,8 @@ pub texts_more : {A : Type 0} (text : A → List ℕ) (xs : List A) (i : ℕ) (d
 texts_more text xs i d less =
     ap (map text) (take_more xs i d less) ∙ map-append text (take i xs) (get_or xs i d ∷ [])
 
-pub next_tell : {A : Type 0} (on_ring : Bool) (text : A → List ℕ) (xs : List A) (i : ℕ) (d : A) (old mid new : Ringed) (now : DateTime)
-    (nonces between left told later more : List ℕ) → i < length xs
+pub next_tell : {A : Type 0} (on_ring : Bool) (text : A → List ℕ) (xs : List A) (i : ℕ) (d : A)
+    (old mid new : Ringed) (now : DateTime) (nonces between left told later more : List ℕ) → i < length xs
     → AllTell on_ring old now nonces (map text (take i xs)) told mid between
     → LineTells on_ring mid now between (text (get_or xs i d)) more new left → later ≡ told ++ more
     → AllTell on_ring old now nonces (map text (take (i + 1) xs)) later new left
@@ -68,8 +68,8 @@ next_tell on_ring text xs i d old mid new now nonces between left told later mor
     (all_more on_ring old mid new now nonces between left (map text (take i xs)) line told more all one))
 
 -- the next line is refused
-pub stops_at : {A : Type 0} (on_ring : Bool) (text : A → List ℕ) (xs : List A) (i : ℕ) (d : A) (old mid : Ringed) (now : DateTime)
-    (nonces left told : List ℕ) (refused : Refusal) → i < length xs
+pub stops_at : {A : Type 0} (on_ring : Bool) (text : A → List ℕ) (xs : List A) (i : ℕ) (d : A)
+    (old mid : Ringed) (now : DateTime) (nonces left told : List ℕ) (refused : Refusal) → i < length xs
     → AllTell on_ring old now nonces (map text (take i xs)) told mid left
     → RefusesLine on_ring now left (text (get_or xs i d)) refused → StopsAt on_ring old now (map text xs) nonces refused
 stops_at on_ring text xs i d old mid now nonces left told refused less all why = record {

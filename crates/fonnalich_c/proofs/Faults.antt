@@ -140,7 +140,8 @@ unheaded rules request store refused (inr (inr why, first)) =
     never : ¬ IsNoMoment request.second
     never none =
         let nearer : refusal_number refusal.Moment ≤ℤ refusal_number refusal.Url =
-        subst (λ r. refusal_number refusal.Moment ≤ℤ refusal_number r) why.0 (first refusal.Moment (inl (refl, none))) in
+        subst (λ r. refusal_number refusal.Moment ≤ℤ refusal_number r) why.0
+        (first refusal.Moment (inl (refl, none))) in
         nearer.le
 
 pub line_unheaded : (rules : Rules) (request : Request) (store : Store) (url : Parts) (page : Option Parts)

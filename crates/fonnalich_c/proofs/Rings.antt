@@ -95,6 +95,7 @@ pub keys_on_ring : (keys : List ℕ) (ends : List ℤ) (second : ℤ) (refused :
 keys_on_ring keys ends second refused is (inl lack) = inl lack
 keys_on_ring keys ends second refused is (inr first) = inr (inr first.0, behind)
   where
-    behind : (other : Refusal) → IsOpeningFault (IsKeyFault keys ends) second other → refusal_number other ≤ℤ refusal_number refused
+    behind : (other : Refusal) → IsOpeningFault (IsKeyFault keys ends) second other
+        → refusal_number other ≤ℤ refusal_number refused
     behind other (inl so) = absurd (is so.1)
     behind other (inr so) = first.1 other so

@@ -8,11 +8,10 @@ use Rattle.jiff.specs.Types.{DateTime}
 use Rattle.jiff.specs.Words.{civil_nanos}
 use Rattle.cookie.specs.KeyRing.{Ring, alone}
 use Rattle.cookie_text.specs.Record.{Seen}
-use Rattle.cookie_client.specs.Jar.{Keyed, Sets, TakesOut, IsRemovalRefusal, ClosesWith}
+use Rattle.cookie_client.specs.Jar.{Sets, TakesOut, IsRemovalRefusal, ClosesWith}
 use Rattle.cookie_client.specs.RingSession.{EndsAt, IsOpenedOnShown, KeepsRing, ReadsEnding, RingReadsIn, Ringed}
 use Rattle.cookie_client.specs.RingSession.{SetsUntil, keyed, until_refusal, value_alone}
 use Rattle.cookie_client.specs.Ways.{set_refusal}
-use Rattle.cookie_client.specs.declared.command.Command.{Command}
 use Rattle.cookie_client.specs.declared.command.Command.TheVariants.{Set, Remove, Get}
 use Rattle.cookie_client.specs.declared.ending.EndingWay.{EndingWay}
 use Rattle.cookie_client.specs.declared.ending.EndingWay.TheVariants as ends
@@ -161,7 +160,8 @@ abbrev pub IsOpeningFault : (Refusal → Type 0) → ℤ → Refusal → Type 0
 IsOpeningFault IsKeyFault second refused = ((refused ≡ refusal.Moment) × IsNoMoment second) ⊎ IsKeyFault refused
 
 -- none opens, or the first command that is refused refuses it
-abbrev pub IsNoExchangeOn : Bool → (Ring → Type 0) → (Refusal → Type 0) → List ℕ → ℤ → List ℕ → List ℕ → Refusal → Type 0
+abbrev pub IsNoExchangeOn : Bool → (Ring → Type 0) → (Refusal → Type 0) → List ℕ → ℤ → List ℕ → List ℕ → Refusal
+    → Type 0
 IsNoExchangeOn on_ring IsOf IsKeyFault header second commands nonces refused =
     IsTold (IsOpeningFault IsKeyFault second) refused
     ⊎ ((opened : Ringed) × (now : DateTime) × Opens IsOf header second opened now

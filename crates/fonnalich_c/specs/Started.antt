@@ -1,5 +1,5 @@
--- A request and what starts it: the lines of its answer, and its header (own: docs/DEFINITIONS.md). What becomes of lines
--- and what a header holds is said by `user_agent`.
+-- A request and what starts it: the lines of its answer, and its header (own: docs/DEFINITIONS.md). What becomes of
+-- lines and what a header holds is said by `user_agent`.
 use Rattle.std.specs.Prelude.{ℕ, ℤ, ◌≡◌, ◌⊎◌, ◌==◌, if◌then◌else◌, Bool, false, true, List, map, Option, Some, None}
 use Rattle.std.specs.Prelude.{IsSomeAnd, option_map}
 use Rattle.url.specs.Parts.{Parts}

@@ -33,11 +33,7 @@ pub enum RingCommand {
 }
 
 /// The command of a line, on a ring of keys or with a single key.
-pub(crate) fn command_by(
-    alloc: Global,
-    on_ring: bool,
-    line: &[u8],
-) -> Result<RingCommand, Refusal>
+pub(crate) fn command_by(alloc: Global, on_ring: bool, line: &[u8]) -> Result<RingCommand, Refusal>
     ensures ok { IfOk result (spec.IsCommandBy on_ring line.now) }
     ensures err { IfErr result (λ refused. (refused ≡ Refusal.Memory)
         ⊎ ((refused ≡ Refusal.Command) × spec.IsNoCommandBy on_ring line.now)) }

@@ -268,7 +268,8 @@ fn get(
     told: &mut Vec<u8>,
 ) -> Result<(), Refusal>
     ensures ok { OnOk result ((read : Option (List ℕ × ℕ)) × (name.now ≢ [])
-        × RingReadsIn session.now way name.now read × (told.new.items ≡ told.old.items ++ spec.read_text on_ring read)) }
+        × RingReadsIn session.now way name.now read
+        × (told.new.items ≡ told.old.items ++ spec.read_text on_ring read)) }
     ensures err { IfErr result (λ refused. (refused ≡ Refusal.Memory)
         ⊎ ((refused ≡ Refusal.EmptyName) × (name.now ≡ []))) }
 {
@@ -287,7 +288,8 @@ fn get_until(
     told: &mut Vec<u8>,
 ) -> Result<(), Refusal>
     ensures ok { OnOk result ((read : Option (List ℕ × ℕ)) × (name.now ≢ [])
-        × ReadsEnding session.now way name.now read × (told.new.items ≡ told.old.items ++ spec.read_text on_ring read)) }
+        × ReadsEnding session.now way name.now read
+        × (told.new.items ≡ told.old.items ++ spec.read_text on_ring read)) }
     ensures err { IfErr result (λ refused. (refused ≡ Refusal.Memory)
         ⊎ ((refused ≡ Refusal.EmptyName) × (name.now ≡ []))) }
 {

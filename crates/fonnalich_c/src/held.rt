@@ -64,9 +64,8 @@ pub(crate) fn work(
     text: &[u8],
     out: &mut [u8],
 ) -> isize
-    ensures { spec.Acts word
-        (record { number = number; subject = subject.now; page = text.now; text = text.now }) (spec.view held.old) out.old
-        (spec.view held.new) out.new result }
+    ensures { spec.Acts word (record { number = number; subject = subject.now; page = text.now; text = text.now })
+        (spec.view held.old) out.old (spec.view held.new) out.new result }
 {
     if word == ANSWER {
         return hand_out(&mut held.kept, out);
@@ -149,7 +148,8 @@ fn take_line(
 ) -> isize
     requires one { lines_of given.now.text ≡ given.now.text ∷ [] }
     requires room { out.old ≢ [] }
-    ensures { spec.ActsBy (Some (receive_word start)) given.now (spec.view held.old) out.old (spec.view held.new) out.new result }
+    ensures { spec.ActsBy (Some (receive_word start)) given.now (spec.view held.old) out.old (spec.view held.new)
+        out.new result }
 {
     match line_number(alloc, &mut held.client, &mut held.browsing, start, given) {
         Ok(number) => {
@@ -216,7 +216,8 @@ pub(crate) fn pick_one(
     name: &[u8],
     out: &mut [u8],
 ) -> isize
-    ensures { ActsOnOne word second (key domain.now path.now name.now) (spec.view held.old) out.old (spec.view held.new) out.new result }
+    ensures { ActsOnOne word second (key domain.now path.now name.now) (spec.view held.old) out.old
+        (spec.view held.new) out.new result }
 {
     let texts = Key { domain, path, name };
     match told(alloc, &mut held.client, Pick::of(word), second, texts) {

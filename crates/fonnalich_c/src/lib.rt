@@ -119,8 +119,8 @@ pub unsafe extern "C" fn fonnalich_act(
     ghost value: { Held }
     requires* { sem 𝓛 (points_to held.the_row at value) }
     ensures* { sem 𝓛 (fex held.the_row.Denot (λ w. fsep
-        (fex (Acts word (record { number = number; subject = subject.now; page = text.now; text = text.now }) (view value)
-        out.old (view w) out.new result) (λ _. ftrue))
+        (fex (Acts word (record { number = number; subject = subject.now; page = text.now; text = text.now })
+        (view value) out.old (view w) out.new result) (λ _. ftrue))
         (points_to held.the_row at w))) }
 {
     work(

@@ -81,16 +81,8 @@ pub(crate) fn receive(
         given,
     )?;
     let initiator = initiator(start, &request.page);
-    let (url, now) = (request.url, request.now);
-    take_all(
-        alloc,
-        client,
-        &browsing.rules,
-        url,
-        &initiator,
-        given.text,
-        now,
-    )
+    let (url, now, rules) = (request.url, request.now, browsing.rules);
+    take_all(alloc, client, &rules, url, &initiator, given.text, now)
 }
 
 /// Takes the line of an answer that has no other, and gives the number of what became of it: no list is made of it.
@@ -120,16 +112,9 @@ pub(crate) fn receive_line(
         request.url,
         &initiator(start, &request.page),
     );
-    let (url, now, secure) = (request.url, request.now, SecurePlaces::none());
-    match take(
-        client,
-        &browsing.rules,
-        across,
-        &secure,
-        url,
-        given.text,
-        now,
-    ) {
+    let (url, now, rules) = (request.url, request.now, browsing.rules);
+    let secure = SecurePlaces::none();
+    match take(client, &rules, across, &secure, url, given.text, now) {
         Ok((outcome, _)) => Ok(outcome_for_number(outcome)),
         Err(_) => Err(Refusal::Stopped(1)),
     }
@@ -157,13 +142,8 @@ pub(crate) fn header(
         given,
     )?;
     let initiator = initiator(start, &request.page);
-    let header = header_for(
-        client,
-        &browsing.rules,
-        request.url,
-        &initiator,
-        request.now,
-    )?;
+    let (url, now, rules) = (request.url, request.now, browsing.rules);
+    let header = header_for(client, &rules, url, &initiator, now)?;
     if has_control(header.as_bytes()) {
         return Err(Refusal::Line);
     }

@@ -10,7 +10,8 @@ returns-in-Set-clause-ok c =
     ok_gives c.set.result _ _ (λ left by. (
       [],
       sym (append-nil c.args.told.now.items),
-      subst (λ it. Tells c.args.on_ring c.args.session.now c.args.now c.args.nonces.now (Kept it) [] c.set.new.session left.now)
+      subst (λ it. Tells c.args.on_ring c.args.session.now c.args.now c.args.nonces.now (Kept it) []
+          c.set.new.session left.now)
           (sym c.in-Set.is) (refl, by.0, by.1),
     )) c.set.ensures.ok
 
@@ -19,6 +20,7 @@ returns-in_ok-remove-in-Remove-clause-ok c =
     let by = c.in_ok-remove-in-Remove.ensures.ok in (
       [],
       sym (append-nil c.args.told.now.items),
-      subst (λ it. Tells c.args.on_ring c.args.session.now c.args.now c.args.nonces.now (Kept it) [] c.remove.new.session c.args.nonces.now)
+      subst (λ it. Tells c.args.on_ring c.args.session.now c.args.now c.args.nonces.now (Kept it) []
+          c.remove.new.session c.args.nonces.now)
           (sym c.in-Remove.is) (refl, by.0, by.1, refl),
     )

@@ -10,7 +10,11 @@ returns-in-Kept-clause-ok c =
     ok_gives c.obey.result _ _ (λ left by. (
       by.0,
       by.1,
-      (Kept c.in-Kept.command, subst (IsCommandBy c.args.on_ring c.args.line.now) c.in-Kept.is c.in_ok-command.ensures.ok, by.2),
+      (
+        Kept c.in-Kept.command,
+        subst (IsCommandBy c.args.on_ring c.args.line.now) c.in-Kept.is c.in_ok-command.ensures.ok,
+        by.2,
+      ),
     )) c.obey.ensures.ok
 
 pub returns-in-SetUntil-clause-ok : goal.returns-in-SetUntil-clause-ok

@@ -1,4 +1,4 @@
-use Rattle.std.proofs.Common.{◌≡◌, ◌∷◌, [], inl, refl, rules, subst, sym}
+use Rattle.std.proofs.Common.{◌≡◌, inl, refl, rules, subst, sym}
 use Rattle.std.specs.Prelude.{◌↔◌, IsTrue}
 use Rattle.jiff.specs.Words.{civil_nanos}
 use Rattle.user_agent.specs.Agent.{AsksForMemory}
@@ -26,11 +26,11 @@ returns-in-Ok-clause-ok c =
     let started : Initiator = c.initiator.result in
     let is_started : IsStarted request started = search rules in
     let moment : civil_nanos c.in_ok-request.request.now ≡ nanos_of request.second = c.in_ok-request.ensures.ok.0 in
-    let comes = subst (λ s. IsTrue c.comes_across-across.result ↔ ComesAcross s.suffixes url started) c.store.ensures.store
-    c.comes_across-across.ensures in
+    let comes = subst (λ s. IsTrue c.comes_across-across.result ↔ ComesAcross s.suffixes url started)
+    c.store.ensures.store c.comes_across-across.ensures in
     let text : c.given.inside.text.now ≡ c.args.given.now.text = search rules in
-    let taken = subst (λ t. TakesLineFrom c.args.browsing.now.rules c.comes_across-across.result old.suffixes old.rows url
-    (civil_nanos c.in_ok-request.request.now) t c.in-Ok.outcome c.take.new.client.rows) text c.in-Ok.ensures.ok in
+    let taken = subst (λ t. TakesLineFrom c.args.browsing.now.rules c.comes_across-across.result old.suffixes old.rows
+    url (civil_nanos c.in_ok-request.request.now) t c.in-Ok.outcome c.take.new.client.rows) text c.in-Ok.ensures.ok in
     one_line_told c.args.browsing.now.rules request c.args.given.now.text old c.take.new.client url started
     c.comes_across-across.result (civil_nanos c.in_ok-request.request.now) c.in-Ok.outcome c.outcome_for_number.result
     moment c.in_ok-request.ensures.ok.1 is_started comes c.requires.one c.in-Ok.ensures.list taken
@@ -43,8 +43,8 @@ returns-clause-err c =
     let url = c.in_ok-request.request.url.now in
     let started : Initiator = c.initiator.result in
     let is_started : IsStarted request started = search rules in
-    let comes = subst (λ s. IsTrue c.comes_across-across.result ↔ ComesAcross s.suffixes url started) c.store.ensures.store
-    c.comes_across-across.ensures in
+    let comes = subst (λ s. IsTrue c.comes_across-across.result ↔ ComesAcross s.suffixes url started)
+    c.store.ensures.store c.comes_across-across.ensures in
     let text : c.given.inside.text.now ≡ c.args.given.now.text = search rules in
     let asks = subst (λ t. AsksForMemory c.args.browsing.now.rules url t) text c.in-Err.ensures.err.1 in
     one_line_stopped c.args.browsing.now.rules request c.args.given.now.text old c.take.new.client url started

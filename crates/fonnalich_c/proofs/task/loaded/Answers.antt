@@ -31,8 +31,8 @@ returns-clause-err c =
     let subject : c.given.inside.subject.now ≡ given.subject = search rules in
     let text : c.given.inside.text.now ≡ given.text = search rules in
     let is = subst (λ t. IsListOf t c.in_ok-list.list) text c.in_ok-list.ensures.ok in
-    let not : IfErr c.loaded_by.result (λ refused. IsNoLoadBy c.given.inside.number c.given.inside.subject.now refused) =
-    simp to_z-of_z at c.loaded_by.ensures.err in
+    let not : IfErr c.loaded_by.result (λ refused. IsNoLoadBy c.given.inside.number c.given.inside.subject.now
+    refused) = simp to_z-of_z at c.loaded_by.ensures.err in
     fault_gives c.loaded_by.result _ (IsNoLoad given.number given.subject given.text) (λ refused why. inr (
       (c.in_ok-list.list, is),
       subst (λ n. IsNoLoadBy n given.subject refused) number
