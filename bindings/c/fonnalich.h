@@ -102,7 +102,7 @@ enum {
     FONNALICH_BY_SECURE_FROM_HTTP = 24,
     FONNALICH_BY_SECURE_OVERLAY = 25,
     FONNALICH_BY_LACKS_SECURE = 26,
-    /* fonnalich_receive_for refused it by its SameSite, and nothing changed */
+    /* it was refused by its SameSite, and nothing changed */
     FONNALICH_BY_CROSS_SITE = 27,       /* a page of another site started the request, which navigates nothing */
     FONNALICH_BY_NONE_LACKS_SECURE = 28 /* it has SameSite=None and isn't Secure */
 };
@@ -155,7 +155,7 @@ enum {
     /* the draft's, which Firefox and Safari lack: fonnalich_header_for and fonnalich_receive_for take a cookie without
        SameSite as one with SameSite=Lax */
     FONNALICH_RULE_LAX_BY_DEFAULT = 1024,
-    /* likewise: fonnalich_receive_for refuses one with SameSite=None that isn't Secure */
+    /* likewise: one with SameSite=None that isn't Secure is refused */
     FONNALICH_RULE_NONE_NEEDS_SECURE = 2048
 };
 

@@ -14,19 +14,19 @@ use Rattle.cookie_store.specs.Rows.{Key, Row, Store}
 use Rattle.cookie_store.specs.SavedTexts.{IsAnyBeforeYears}
 use Rattle.cookie_client.specs.Loading.{IsNoSavedText}
 use Rattle.cookie_client.specs.Hosts.{url_of}
-use Rattle.fonnalich_c.specs.Exchange.{IsNoExchange}
+use Rattle.fonnalich_c.specs.Exchange.{IsOpeningFault, IsShortKey}
 use Rattle.fonnalich_c.specs.Faults.{IsFirst, IsTold}
 use Rattle.fonnalich_c.specs.Given.{IsNoMoment, IsNoUrl, IsUrl, nanos_of}
 use Rattle.fonnalich_c.specs.Numbers.{refusal_number}
 use Rattle.fonnalich_c.specs.One.{IsKeyText, IsPickFault}
 use Rattle.fonnalich_c.specs.Parts.{AreTexts, EndsAtNoMoment, IsUnmade, Texts, counted}
-use Rattle.fonnalich_c.specs.Started.{IsNoPageOf, IsReceiptFault, Receipt}
-use Rattle.fonnalich_c.specs.Tasks.{IsBroken, IsBrokenFrom, IsHeaderFault, IsNoLoadBy, IsRequestFault}
-use Rattle.fonnalich_c.specs.Tasks.{IsSavingFault, IsStartedFault}
+use Rattle.fonnalich_c.specs.Started.{HeadsSo, IsHeaderFault, IsNoPageOf, IsPageOf, IsRequestFault, Request}
+use Rattle.fonnalich_c.specs.Tasks.{IsNoLoadBy, IsSavingFault}
 use Rattle.fonnalich_c.specs.declared.attributes.Attributes.{Attributes}
 use Rattle.fonnalich_c.specs.declared.refusal.Refusal.{Refusal}
 use Rattle.fonnalich_c.specs.declared.refusal.Refusal.TheVariants as refusal
 use Rattle.fonnalich_c.specs.declared.started.Start.{Start}
+use Rattle.fonnalich_c.specs.declared.started.Start.TheVariants as start
 
 -- ---- two faults and three, in the order of their numbers
 
@@ -97,17 +97,6 @@ third_of_three first second third A B C refused never nor why = (inr (inr why), 
 pub is_moment : (at : DateTime) (second : ℤ) → civil_nanos at ≡ nanos_of second → ¬ IsNoMoment second
 is_moment at second same none = none (subst IsCivilNanos same (civil_nanos_range at))
 
--- ---- a second and a URL
-
-pub url_second : (second : ℤ) (subject : List ℕ) (refused : Refusal) → ¬ IsNoMoment second
-    → (refused ≡ refusal.Memory) ⊎ ((refused ≡ refusal.Url) × IsNoUrl subject)
-    → IsTold (IsRequestFault second subject) refused
-url_second second subject refused is (inl memory) = inl memory
-url_second second subject refused is (inr why) =
-    inr (second_of_two refusal.Moment refusal.Url (IsNoMoment second) (IsNoUrl subject) refused is why)
-
--- ---- a second, a URL and a header
-
 pub is_url : (subject : List ℕ) (url : Parts) → IsUrl subject url → ¬ IsNoUrl subject
 is_url subject url is (inl no_text) = no_text is.0
 is_url subject url is (inr none) = none_some (url_of subject) url none is.1
@@ -115,63 +104,60 @@ is_url subject url is (inr none) = none_some (url_of subject) url none is.1
     none_some : (found : Option Parts) (it : Parts) → found ≡ None → found ≡ Some it → ⊥
     none_some found it none some = cc
 
-pub url_unsent : (rules : Option Rules) (second : ℤ) (subject : List ℕ) (rows : List Row) (refused : Refusal)
-    → ¬ IsNoMoment second → (refused ≡ refusal.Memory) ⊎ ((refused ≡ refusal.Url) × IsNoUrl subject)
-    → IsTold (IsHeaderFault rules second subject rows) refused
-url_unsent rules second subject rows refused is (inl memory) = inl memory
-url_unsent rules second subject rows refused is (inr why) =
-    inr (second_of_three refusal.Moment refusal.Url refusal.Line (IsNoMoment second) (IsNoUrl subject)
-    (IsBroken rules second subject rows) refused (record { le = tt }) is why)
+is_page : (start : Start) (text : List ℕ) (page : Option Parts) → IsPageOf start text page → ¬ IsNoPageOf start text
+is_page start.User text page is none = none
+is_page start.Page text None is none = is
+is_page start.Page text (Some page) is none = is_url text page is none
+is_page start.Navigation text None is none = is
+is_page start.Navigation text (Some page) is none = is_url text page is none
 
-pub line_unsent : (rules : Option Rules) (second : ℤ) (subject : List ℕ) (rows : List Row) (refused : Refusal)
-    → ¬ IsNoMoment second → ¬ IsNoUrl subject → (refused ≡ refusal.Line) × IsBroken rules second subject rows
-    → IsTold (IsHeaderFault rules second subject rows) refused
-line_unsent rules second subject rows refused is at why =
-    inr (third_of_three refusal.Moment refusal.Url refusal.Line (IsNoMoment second) (IsNoUrl subject)
-    (IsBroken rules second subject rows) refused is at why)
+-- ---- a request
 
--- ---- a second, a URL, that of a page and a header
+pub url_unread : (request : Request) (refused : Refusal) → ¬ IsNoMoment request.second
+    → (refused ≡ refusal.Memory)
+    ⊎ ((refused ≡ refusal.Url) × (IsNoUrl request.url ⊎ IsNoPageOf request.start request.page))
+    → IsTold (IsRequestFault request) refused
+url_unread request refused is (inl memory) = inl memory
+url_unread request refused is (inr why) =
+    inr (second_of_two refusal.Moment refusal.Url (IsNoMoment request.second)
+    (IsNoUrl request.url ⊎ IsNoPageOf request.start request.page) refused is why)
 
-pub url_unstarted : (rules : Option Rules) (is_let : Bool) (second : ℤ) (subject text : List ℕ) (store : Store)
-    (refused : Refusal) → ¬ IsNoMoment second
-    → (refused ≡ refusal.Memory) ⊎ ((refused ≡ refusal.Url) × (IsNoUrl subject ⊎ IsNoUrl text))
-    → IsTold (IsStartedFault rules is_let second subject text store) refused
-unfolding IsStartedFault
-url_unstarted rules is_let second subject text store refused is (inl memory) = inl memory
-url_unstarted rules is_let second subject text store refused is (inr why) =
-    inr (second_of_three refusal.Moment refusal.Url refusal.Line (IsNoMoment second) (IsNoUrl subject ⊎ IsNoUrl text)
-    (IsBrokenFrom rules is_let second subject text store) refused (record { le = tt }) is why)
-
-pub moment_unstarted : (rules : Option Rules) (is_let : Bool) (second : ℤ) (subject text : List ℕ) (store : Store)
-    (refused : Refusal) → (refused ≡ refusal.Moment) × IsNoMoment second
-    → IsTold (IsStartedFault rules is_let second subject text store) refused
-unfolding IsStartedFault
-moment_unstarted rules is_let second subject text store refused why =
-    inr (first_of_three refusal.Moment refusal.Url refusal.Line (IsNoMoment second) (IsNoUrl subject ⊎ IsNoUrl text)
-    (IsBrokenFrom rules is_let second subject text store) refused (record { le = tt }) (record { le = tt }) why)
-
-pub line_unstarted : (rules : Option Rules) (is_let : Bool) (second : ℤ) (subject text : List ℕ) (store : Store)
-    (refused : Refusal) → ¬ IsNoMoment second → ¬ IsNoUrl subject → ¬ IsNoUrl text
-    → (refused ≡ refusal.Line) × IsBrokenFrom rules is_let second subject text store
-    → IsTold (IsStartedFault rules is_let second subject text store) refused
-unfolding IsStartedFault
-line_unstarted rules is_let second subject text store refused is at from why =
-    inr (third_of_three refusal.Moment refusal.Url refusal.Line (IsNoMoment second) (IsNoUrl subject ⊎ IsNoUrl text)
-    (IsBrokenFrom rules is_let second subject text store) refused is neither why)
+-- the header comes behind these
+pub unheaded : (rules : Rules) (request : Request) (store : Store) (refused : Refusal)
+    → IsTold (IsRequestFault request) refused → IsTold (IsHeaderFault rules request store) refused
+unfolding IsHeaderFault
+unheaded rules request store refused (inl memory) = inl memory
+unheaded rules request store refused (inr (inl why, first)) =
+    inr (first_of_three refusal.Moment refusal.Url refusal.Line (IsNoMoment request.second)
+    (IsNoUrl request.url ⊎ IsNoPageOf request.start request.page)
+    ((header : List ℕ) × HeadsSo true rules request store header) refused (record { le = tt }) (record { le = tt }) why)
+unheaded rules request store refused (inr (inr why, first)) =
+    inr (second_of_three refusal.Moment refusal.Url refusal.Line (IsNoMoment request.second)
+    (IsNoUrl request.url ⊎ IsNoPageOf request.start request.page)
+    ((header : List ℕ) × HeadsSo true rules request store header) refused (record { le = tt }) never why)
   where
-    neither : ¬ (IsNoUrl subject ⊎ IsNoUrl text)
-    neither (inl none) = at none
-    neither (inr none) = from none
+    -- a moment's fault would be told before
+    never : ¬ IsNoMoment request.second
+    never none =
+        let nearer : refusal_number refusal.Moment ≤ℤ refusal_number refusal.Url =
+        subst (λ r. refusal_number refusal.Moment ≤ℤ refusal_number r) why.0
+        (first refusal.Moment (inl (refl, none))) in
+        nearer.le
 
--- ---- a second, a URL and that of the page that starts its request
-
-pub url_unreceived : (start : Start) (given : Receipt) (refused : Refusal) → ¬ IsNoMoment given.second
-    → (refused ≡ refusal.Memory) ⊎ ((refused ≡ refusal.Url) × (IsNoUrl given.url ⊎ IsNoPageOf start given.page))
-    → IsTold (IsReceiptFault start given) refused
-url_unreceived start given refused is (inl memory) = inl memory
-url_unreceived start given refused is (inr why) =
-    inr (second_of_two refusal.Moment refusal.Url (IsNoMoment given.second)
-    (IsNoUrl given.url ⊎ IsNoPageOf start given.page) refused is why)
+pub line_unheaded : (rules : Rules) (request : Request) (store : Store) (url : Parts) (page : Option Parts)
+    (refused : Refusal) → ¬ IsNoMoment request.second → IsUrl request.url url
+    → IsPageOf request.start request.page page
+    → (refused ≡ refusal.Line) × ((header : List ℕ) × HeadsSo true rules request store header)
+    → IsTold (IsHeaderFault rules request store) refused
+unfolding IsHeaderFault
+line_unheaded rules request store url page refused is at from why =
+    inr (third_of_three refusal.Moment refusal.Url refusal.Line (IsNoMoment request.second)
+    (IsNoUrl request.url ⊎ IsNoPageOf request.start request.page)
+    ((header : List ℕ) × HeadsSo true rules request store header) refused is neither why)
+  where
+    neither : ¬ (IsNoUrl request.url ⊎ IsNoPageOf request.start request.page)
+    neither (inl none) = is_url request.url url at none
+    neither (inr none) = is_page request.start request.page page from none
 
 -- ---- a second and a key of a cookie
 
@@ -226,11 +212,10 @@ pub too_short : {A E : Type 0} (key : List ℕ) (r : Result A E) → ((x : A) �
     → (IsOk r ↔ (64 ≤ length key)) → length key < 64
 too_short key r never accepted = lt_of_not-le (λ long. not_ok r never (accepted.1 long))
 
-pub key_unopened : (key header : List ℕ) (second : ℤ) (commands nonces : List ℕ) (refused : Refusal)
-    → ¬ IsNoMoment second → (refused ≡ refusal.Key) × (length key < 64)
-    → IsNoExchange key header second commands nonces refused
-key_unopened key header second commands nonces refused is why =
-    inl (inr (second_of_two refusal.Moment refusal.Key (IsNoMoment second) (length key < 64) refused is why))
+pub key_unopened : (key : List ℕ) (second : ℤ) (refused : Refusal) → ¬ IsNoMoment second → IsShortKey key refused
+    → IsTold (IsOpeningFault (IsShortKey key) second) refused
+key_unopened key second refused is why =
+    inr (second_of_two refusal.Moment refusal.Key (IsNoMoment second) (length key < 64) refused is why)
 
 -- ---- a second, texts and a number of an attribute `SameSite`
 

@@ -1,5 +1,4 @@
 pub mod Exchanges
-pub mod RingExchanges
 pub mod Rings
 pub mod Faults
 pub mod Flags

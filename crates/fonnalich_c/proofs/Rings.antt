@@ -9,7 +9,7 @@ use Rattle.fonnalich_c.specs.Faults.{IsTold}
 use Rattle.fonnalich_c.specs.Given.{IsNoMoment}
 use Rattle.fonnalich_c.specs.Numbers.{refusal_number}
 use Rattle.fonnalich_c.specs.Ring.{AreEarlier, HasNoEnd, IsEarlier, IsKeyFault, IsNoEnd, IsRing}
-use Rattle.fonnalich_c.specs.RingExchange.{IsRingFault}
+use Rattle.fonnalich_c.specs.Exchange.{IsOpeningFault}
 use Rattle.fonnalich_c.specs.declared.refusal.Refusal.{Refusal}
 
 -- ---- one key more
@@ -91,10 +91,11 @@ ring_is keys ends r ring current earlier made parts few whole is are =
 -- ---- what is told: the second before the keys
 
 pub keys_on_ring : (keys : List ℕ) (ends : List ℤ) (second : ℤ) (refused : Refusal) → ¬ IsNoMoment second
-    → IsTold (IsKeyFault keys ends) refused → IsTold (IsRingFault keys ends second) refused
+    → IsTold (IsKeyFault keys ends) refused → IsTold (IsOpeningFault (IsKeyFault keys ends) second) refused
 keys_on_ring keys ends second refused is (inl lack) = inl lack
 keys_on_ring keys ends second refused is (inr first) = inr (inr first.0, behind)
   where
-    behind : (other : Refusal) → IsRingFault keys ends second other → refusal_number other ≤ℤ refusal_number refused
+    behind : (other : Refusal) → IsOpeningFault (IsKeyFault keys ends) second other
+        → refusal_number other ≤ℤ refusal_number refused
     behind other (inl so) = absurd (is so.1)
     behind other (inr so) = first.1 other so

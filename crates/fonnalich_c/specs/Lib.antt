@@ -14,8 +14,6 @@ pub mod Room
 pub mod Commands
 pub mod Exchange
 pub mod Ring
-pub mod RingCommands
-pub mod RingExchange
 pub mod Plain
 pub mod Parts
 pub mod Listing

@@ -11,27 +11,29 @@ use Rattle.cookie_client.specs.declared.outcome.SessionError.TheVariants as sess
 use Rattle.cookies_txt.specs.declared.readers.Reader.TheVariants as reader
 use Rattle.fonnalich_c.specs.declared.refusal.Refusal.{Refusal}
 use Rattle.fonnalich_c.specs.declared.refusal.Refusal.TheVariants as refusal
+use Rattle.fonnalich_c.specs.declared.started.Start.{Start}
+use Rattle.fonnalich_c.specs.declared.started.Start.TheVariants as start
 use Rattle.fonnalich_c.specs.declared.word.Word.{Word}
 use Rattle.fonnalich_c.specs.declared.word.Word.TheVariants.{List, Load, Rules, Ask, Keep, By}
 use Rattle.fonnalich_c.specs.declared.word.Task.TheVariants.{Receive, Header, Save, Restart, SaveAll, Reload, Count}
-use Rattle.fonnalich_c.specs.declared.word.Task.TheVariants.{List as Listing, Clear, Fetch, Navigate, Import, Export}
+use Rattle.fonnalich_c.specs.declared.word.Task.TheVariants.{List as Listing, Clear, Import, Export}
 use Rattle.fonnalich_c.specs.declared.word.ByList.TheVariants as by
 
 -- the word that hands out the answer that had no room
 abbrev pub answer_word : ℕ
 answer_word = 0
 
--- the word that takes the lines of an answer
-abbrev pub receive_word : ℕ
-receive_word = 3
+-- the word that takes the lines of an answer to a request that is started so
+abbrev pub receive_word : Start → Word
+receive_word start = Ask (Receive start)
 
 -- what the other words do
 abbrev pub word_of : ℕ → Option Word
 word_of number =
     if number == 1 then Some List
     else if number == 2 then Some Load
-    else if number == 3 then Some (Ask Receive)
-    else if number == 4 then Some (Ask Header)
+    else if number == 3 then Some (receive_word start.User)
+    else if number == 4 then Some (Ask (Header start.User))
     else if number == 5 then Some (Ask Save)
     else if number == 6 then Some (Ask Restart)
     else if number == 7 then Some Rules
@@ -40,8 +42,8 @@ word_of number =
     else if number == 10 then Some (Ask Count)
     else if number == 11 then Some (Ask Listing)
     else if number == 12 then Some (Ask Clear)
-    else if number == 13 then Some (Ask Fetch)
-    else if number == 14 then Some (Ask Navigate)
+    else if number == 13 then Some (Ask (Header start.Page))
+    else if number == 14 then Some (Ask (Header start.Navigation))
     else if number == 15 then Some Keep
     else if number == 16 then Some (By by.Begin)
     else if number == 17 then Some (By by.Load)

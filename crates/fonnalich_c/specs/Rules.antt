@@ -1,6 +1,6 @@
 -- The rules of user agents by their flags, and the numbers of what becomes of a line behind them (own:
 -- docs/DEFINITIONS.md). The rules are those of `user_agent`.
-use Rattle.std.specs.Prelude.{ℕ, zero, suc, ℤ, pos, ◌≡◌, ◌<◌, ◌/◌, ◌%◌, ◌==◌, Bool, Option, Some, None}
+use Rattle.std.specs.Prelude.{ℕ, ℤ, pos, ◌≡◌, ◌<◌, ◌/◌, ◌%◌, ◌==◌, Bool}
 use Rattle.user_agent.specs.declared.cross_answer.OutcomeFor.{OutcomeFor}
 use Rattle.user_agent.specs.declared.cross_answer.OutcomeFor.TheVariants.{Judged, KeptOut}
 use Rattle.user_agent.specs.declared.cross_answer.SiteRefusal.{SiteRefusal}
@@ -37,13 +37,9 @@ ruled flags = record {
   none_needs_secure = is_set 2048 flags;
 }
 
--- the rules of a number of twelve flags; without a flag there are none, and lines go to the client as they stand
-abbrev pub rules_of : ℕ → Option Rules
-rules_of zero = None
-rules_of (suc flags) = Some (ruled (suc flags))
-
-abbrev pub IsFlags : ℤ → Option Rules → Type 0
-IsFlags number rules = (flags : ℕ) × (number ≡ pos flags) × (flags < 4096) × (rules ≡ rules_of flags)
+-- the rules of a number of twelve flags
+abbrev pub IsFlags : ℤ → Rules → Type 0
+IsFlags number rules = (flags : ℕ) × (number ≡ pos flags) × (flags < 4096) × (rules ≡ ruled flags)
 
 abbrev pub IsNoFlags : ℤ → Type 0
 IsNoFlags number = (flags : ℕ) → flags < 4096 → ¬ (number ≡ pos flags)

@@ -1,19 +1,18 @@
--- The lines of an answer, where it is said what started its request (own: docs/DEFINITIONS.md). What becomes of them is
--- said by `user_agent`.
+-- A request and what starts it: the lines of its answer, and its header (own: docs/DEFINITIONS.md). What becomes of
+-- lines and what a header holds is said by `user_agent`.
 use Rattle.std.specs.Prelude.{ℕ, ℤ, ◌≡◌, ◌⊎◌, ◌==◌, if◌then◌else◌, Bool, false, true, List, map, Option, Some, None}
 use Rattle.std.specs.Prelude.{IsSomeAnd, option_map}
 use Rattle.url.specs.Parts.{Parts}
 use Rattle.cookie_store.specs.Rows.{Store}
 use Rattle.user_agent.specs.CrossAnswers.{ReceivesFor, IsStoppedFor}
+use Rattle.user_agent.specs.CrossSite.{IsHeaderFor}
 use Rattle.user_agent.specs.declared.cross_answer.OutcomeFor.{OutcomeFor}
 use Rattle.user_agent.specs.declared.rules.Rules.{Rules}
 use Rattle.user_agent.specs.declared.sites.Initiator.{Initiator}
+use Rattle.fonnalich_c.specs.Control.{has_control}
 use Rattle.fonnalich_c.specs.Faults.{IsTold}
 use Rattle.fonnalich_c.specs.Given.{IsUrl, IsNoUrl, IsNoMoment, nanos_of, lines_of}
-use Rattle.fonnalich_c.specs.Handle.{Held, IsHandedOut}
-use Rattle.fonnalich_c.specs.Numbers.{refusal_number}
 use Rattle.fonnalich_c.specs.Rules.{outcome_for_number}
-use Rattle.fonnalich_c.specs.Tasks.{rules_on}
 use Rattle.fonnalich_c.specs.declared.refusal.Refusal.{Refusal}
 use Rattle.fonnalich_c.specs.declared.refusal.Refusal.TheVariants as refusal
 use Rattle.fonnalich_c.specs.declared.started.Start.{Start}
@@ -27,12 +26,12 @@ start_of number =
     else if number == 2 then Some start.Navigation
     else None
 
--- what a receipt is given: a second since 1970, the URL of the request, that of the page that starts it, and the lines
-pub record Receipt : Type 0 where
+-- a request: a second since 1970, its URL, what starts it, and the URL of the page that does
+pub record Request : Type 0 where
   pub second : ℤ
   pub url : List ℕ
+  pub start : Start
   pub page : List ℕ
-  pub lines : List ℕ
 
 -- the URL of the text is that of the page, where one starts the request
 abbrev pub IsPageOf : Start → List ℕ → Option Parts → Type 0
@@ -50,57 +49,53 @@ navigates start.User = false
 navigates start.Page = false
 navigates start.Navigation = true
 
--- what the request is told to be started by
-abbrev pub IsStartedSo : Start → List ℕ → Initiator → Type 0
-IsStartedSo start text initiator = IsPageOf start text (option_map (λ page. page.now) initiator.page)
-    × (initiator.is_navigation ≡ navigates start)
+-- it is told to be started so: a navigation of the top level is one by a safe method
+abbrev pub IsStarted : Request → Initiator → Type 0
+IsStarted request initiator =
+    IsPageOf request.start request.page (option_map (λ page. page.now) initiator.page)
+    × (initiator.is_navigation ≡ navigates request.start) × (initiator.is_safe ≡ navigates request.start)
 
--- The lines come to the client from the URL, and the answer has the number of what became of each. Without rules none
--- is on.
-abbrev pub ReceivesSo : Option Rules → Start → Receipt → Store → List ℕ → Store → Type 0
-ReceivesSo rules start given old answer new = (new.suffixes ≡ old.suffixes)
-    × ((url : Parts) × (initiator : Initiator) × (outcomes : List OutcomeFor) × IsUrl given.url url
-    × IsStartedSo start given.page initiator
-    × ReceivesFor (rules_on rules) old.suffixes old.rows url initiator (nanos_of given.second) (lines_of given.lines)
-    outcomes new.rows
+-- what is wrong with its second, its URL and that of the page
+abbrev pub IsRequestFault : Request → Refusal → Type 0
+IsRequestFault request refused = ((refused ≡ refusal.Moment) × IsNoMoment request.second)
+    ⊎ ((refused ≡ refusal.Url) × (IsNoUrl request.url ⊎ IsNoPageOf request.start request.page))
+
+-- ---- the lines of its answer
+
+-- the lines of the text come to the client, and the answer has the number of what became of each
+abbrev pub Receives : Rules → Request → List ℕ → Store → List ℕ → Store → Type 0
+Receives rules request text old answer new = (new.suffixes ≡ old.suffixes)
+    × ((url : Parts) × (initiator : Initiator) × (outcomes : List OutcomeFor) × IsUrl request.url url
+    × IsStarted request initiator
+    × ReceivesFor rules old.suffixes old.rows url initiator (nanos_of request.second) (lines_of text) outcomes new.rows
     × (answer ≡ map outcome_for_number outcomes))
 
 -- memory was refused at a line
-abbrev pub StopsSo : Option Rules → Start → Receipt → Store → ℕ → Store → Type 0
-StopsSo rules start given old line new = (new.suffixes ≡ old.suffixes)
-    × ((url : Parts) × (initiator : Initiator) × IsUrl given.url url × IsStartedSo start given.page initiator
-    × IsStoppedFor (rules_on rules) old.suffixes old.rows url initiator (nanos_of given.second)
-    (lines_of given.lines) line new.rows)
-
--- what is wrong with a second, the URL and that of the page
-abbrev pub IsReceiptFault : Start → Receipt → Refusal → Type 0
-IsReceiptFault start given refused = ((refused ≡ refusal.Moment) × IsNoMoment given.second)
-    ⊎ ((refused ≡ refusal.Url) × (IsNoUrl given.url ⊎ IsNoPageOf start given.page))
+abbrev pub StopsAtLine : Rules → Request → List ℕ → Store → ℕ → Store → Type 0
+StopsAtLine rules request text old line new = (new.suffixes ≡ old.suffixes)
+    × ((url : Parts) × (initiator : Initiator) × IsUrl request.url url × IsStarted request initiator
+    × IsStoppedFor rules old.suffixes old.rows url initiator (nanos_of request.second) (lines_of text) line new.rows)
 
 -- why the client doesn't take the lines, or not all
-abbrev pub RefusesSo : Option Rules → Start → Receipt → Store → Refusal → Store → Type 0
-RefusesSo rules start given old refused new =
-    ((new ≡ old) × IsTold (IsReceiptFault start given) refused)
-    ⊎ ((line : ℕ) × (refused ≡ refusal.Stopped line) × StopsSo rules start given old line new)
+abbrev pub RefusesLines : Rules → Request → List ℕ → Store → Refusal → Store → Type 0
+RefusesLines rules request text old refused new =
+    ((new ≡ old) × IsTold (IsRequestFault request) refused)
+    ⊎ ((line : ℕ) × (refused ≡ refusal.Stopped line) × StopsAtLine rules request text old line new)
 
--- what a receipt answers by the client that there may be, and what that is then
-abbrev pub ReceivesOf : Option Start → Option Rules → Receipt → Option Store → List ℕ → Option Store → Type 0
-ReceivesOf None rules given old answer new = ⊥
-ReceivesOf (Some start) rules given None answer new = ⊥
-ReceivesOf (Some start) rules given (Some old) answer new =
-    (client : Store) × (new ≡ Some client) × ReceivesSo rules start given old answer client
+-- ---- its header
 
--- why it answers nothing, and what the client is then
-abbrev pub IsNoReceipt : Option Start → Option Rules → Receipt → Option Store → Refusal → Option Store → Type 0
-IsNoReceipt None rules given old refused new = (new ≡ old) × (refused ≡ refusal.Word)
-IsNoReceipt (Some start) rules given None refused new = (new ≡ None) × (refused ≡ refusal.NoClient)
-IsNoReceipt (Some start) rules given (Some old) refused new =
-    (client : Store) × (new ≡ Some client) × RefusesSo rules start given old refused client
+-- this is the header, and whether it has a control character
+abbrev pub HeadsSo : Bool → Rules → Request → Store → List ℕ → Type 0
+HeadsSo is_broken rules request store header = (has_control header ≡ is_broken)
+    × ((url : Parts) × (initiator : Initiator) × IsUrl request.url url × IsStarted request initiator
+    × IsHeaderFor rules store.suffixes store.rows url initiator (nanos_of request.second) header)
 
--- A receipt hands its answer out; a refusal writes and drops nothing, and leaves the list and the rules.
-abbrev pub ActsOnReceipt : ℕ → Receipt → Held → List ℕ → Held → List ℕ → ℤ → Type 0
-ActsOnReceipt started given old out new written number = (new.list ≡ old.list) × (new.rules ≡ old.rules)
-    × (((answer : List ℕ) × ReceivesOf (start_of started) old.rules given old.client answer new.client
-    × IsHandedOut answer out new.kept written number)
-    ⊎ ((refused : Refusal) × IsNoReceipt (start_of started) old.rules given old.client refused new.client
-    × (new.kept ≡ old.kept) × (written ≡ out) × (number ≡ refusal_number refused)))
+-- the answer is the header, and has none
+unfoldable pub Heads : Rules → Request → Store → List ℕ → Type 0
+Heads rules request store answer = HeadsSo false rules request store answer
+
+-- what is wrong with the request, or that its header has one
+unfoldable pub IsHeaderFault : Rules → Request → Store → Refusal → Type 0
+IsHeaderFault rules request store refused = ((refused ≡ refusal.Moment) × IsNoMoment request.second)
+    ⊎ ((refused ≡ refusal.Url) × (IsNoUrl request.url ⊎ IsNoPageOf request.start request.page))
+    ⊎ ((refused ≡ refusal.Line) × ((header : List ℕ) × HeadsSo true rules request store header))

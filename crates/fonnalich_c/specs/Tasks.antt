@@ -1,42 +1,32 @@
 -- What the words of a call make of a client (own: docs/DEFINITIONS.md).
-use Rattle.std.specs.Prelude.{ℕ, ℤ, pos, Bool, ◌≡◌, ◌≢◌, ◌⊎◌, List, [], Option, Some, None, map, false, true, IsSomeAnd}
+use Rattle.std.specs.Prelude.{ℕ, ℤ, pos, ◌≡◌, ◌≢◌, ◌⊎◌, List, [], Option, Some, None, false, true}
 use Rattle.std.specs.Str.{IsUtf8}
 use Rattle.publicsuffix.specs.Rules.{Rule}
 use Rattle.saved_text.specs.RonLayout.{ron_layout}
 use Rattle.saved_text.specs.RonReading.{ShowsOnly}
 use Rattle.store_parts.specs.declared.error.Error.{Error}
 use Rattle.store_parts.specs.declared.error.Error.TheVariants.{Io, OutOfMemory}
-use Rattle.url.specs.Parts.{Parts}
 use Rattle.cookie_store.specs.Given.{ArePicked}
 use Rattle.cookie_store.specs.Placing.{saved}
 use Rattle.cookie_store.specs.Rows.{Row, Store}
 use Rattle.cookie_store.specs.SavedTexts.{Loads, Saves, IsAnyBeforeYears}
-use Rattle.cookie_client.specs.Accept.{AcceptsAll, IsStopped}
-use Rattle.cookie_client.specs.Header.{IsHeader}
 use Rattle.cookie_client.specs.Keeping.{Keeps}
 use Rattle.cookie_client.specs.KeptKeys.{KeepsKeys}
 use Rattle.cookie_client.specs.HostPrefix.{IsHeldRightly}
 use Rattle.cookie_client.specs.Loading.{IsNoSavedText}
-use Rattle.cookie_client.specs.declared.outcome.LineEnd.{LineEnd}
-use Rattle.user_agent.specs.Agent as agent
-use Rattle.user_agent.specs.CrossSite.{IsHeaderFor}
-use Rattle.user_agent.specs.Headers.{IsHeaderBehind}
-use Rattle.user_agent.specs.Sites.{is_safe_navigation}
-use Rattle.user_agent.specs.declared.rules.Outcome.{Outcome}
 use Rattle.user_agent.specs.declared.rules.Rules.{Rules}
-use Rattle.user_agent.specs.declared.sites.Initiator.{Initiator}
-use Rattle.fonnalich_c.specs.Control.{has_control}
 use Rattle.fonnalich_c.specs.Exporting.{Exports}
 use Rattle.fonnalich_c.specs.Faults.{IsTold}
-use Rattle.fonnalich_c.specs.Given.{IsListOf, IsNoListOf, IsUrl, IsNoUrl, IsNoMoment, nanos_of, lines_of}
+use Rattle.fonnalich_c.specs.Given.{IsListOf, IsNoListOf, IsNoMoment, nanos_of}
 use Rattle.fonnalich_c.specs.Importing.{Imports}
 use Rattle.fonnalich_c.specs.Listing.{IsCount, IsListing, IsNoListing}
-use Rattle.fonnalich_c.specs.Numbers.{end_number}
-use Rattle.fonnalich_c.specs.Rules.{IsFlags, IsNoFlags, outcome_number, ruled}
+use Rattle.fonnalich_c.specs.Rules.{IsFlags, IsNoFlags}
 use Rattle.fonnalich_c.specs.Shard.{IsShardAtIn, IsShardIn, HasNoShardAtIn, HasNoShardIn}
+use Rattle.fonnalich_c.specs.Started.{Request, Receives, RefusesLines, Heads, IsHeaderFault}
 use Rattle.fonnalich_c.specs.Suffix.{IsSuffixBy, HasNoSuffixBy}
 use Rattle.fonnalich_c.specs.declared.refusal.Refusal.{Refusal}
 use Rattle.fonnalich_c.specs.declared.refusal.Refusal.TheVariants as refusal
+use Rattle.fonnalich_c.specs.declared.started.Start.{Start}
 use Rattle.fonnalich_c.specs.declared.word.ByList.{ByList}
 use Rattle.fonnalich_c.specs.declared.word.ByList.TheVariants as by
 use Rattle.fonnalich_c.specs.declared.word.Task.{Task}
@@ -44,107 +34,19 @@ use Rattle.fonnalich_c.specs.declared.word.Task.TheVariants as task
 use Rattle.fonnalich_c.specs.declared.word.Word.{Word}
 use Rattle.fonnalich_c.specs.declared.word.Word.TheVariants as word
 
--- what a call is given: a second since 1970 or the flags of rules; a URL, a saved text or a host; and lines, the URL of
--- a page or a suffix list
+-- what a call is given: a second since 1970 or the flags of rules; a URL, a saved text or a host; the URL of the page
+-- that starts a request; and lines or a suffix list
 pub record Given : Type 0 where
   pub number : ℤ
   pub subject : List ℕ
+  pub page : List ℕ
   pub text : List ℕ
 
 -- ---- the tasks of a client
 
--- the numbers of what becomes of lines: without rules the client takes each, with rules a user agent does
-abbrev pub Tells : Option Rules → List Rule → List Row → Parts → ℤ → List (List ℕ) → List ℕ → List Row → Type 0
-Tells None list rows url now lines answer new = (ends : List LineEnd)
-    × AcceptsAll list rows url now lines ends new × (answer ≡ map end_number ends)
-Tells (Some rules) list rows url now lines answer new = (outcomes : List Outcome)
-    × agent.TakesLines rules list rows url now lines outcomes new × (answer ≡ map outcome_number outcomes)
-
--- memory was refused at a line of these
-abbrev pub Stops : Option Rules → List Rule → List Row → Parts → ℤ → List (List ℕ) → ℕ → List Row → Type 0
-Stops None list rows url now lines line new = IsStopped list rows url now lines line new
-Stops (Some rules) list rows url now lines line new = agent.IsStopped rules list rows url now lines line new
-
--- the lines of the text come to it from the URL, and the answer has the number of what became of each
-abbrev pub Receives : Option Rules → ℤ → List ℕ → List ℕ → Store → List ℕ → Store → Type 0
-Receives rules second subject text old answer new = (new.suffixes ≡ old.suffixes)
-    × ((url : Parts) × IsUrl subject url
-    × Tells rules old.suffixes old.rows url (nanos_of second) (lines_of text) answer new.rows)
-
--- memory was refused at a line
-abbrev pub StopsAtLine : Option Rules → ℤ → List ℕ → List ℕ → Store → ℕ → Store → Type 0
-StopsAtLine rules second subject text old line new = (new.suffixes ≡ old.suffixes)
-    × ((url : Parts) × IsUrl subject url
-    × Stops rules old.suffixes old.rows url (nanos_of second) (lines_of text) line new.rows)
-
--- what is wrong with a second and a URL
-abbrev pub IsRequestFault : ℤ → List ℕ → Refusal → Type 0
-IsRequestFault second subject refused =
-    ((refused ≡ refusal.Moment) × IsNoMoment second) ⊎ ((refused ≡ refusal.Url) × IsNoUrl subject)
-
-abbrev pub RefusesLines : Option Rules → ℤ → List ℕ → List ℕ → Store → Refusal → Store → Type 0
-RefusesLines rules second subject text old refused new =
-    ((new ≡ old) × IsTold (IsRequestFault second subject) refused)
-    ⊎ ((line : ℕ) × (refused ≡ refusal.Stopped line) × StopsAtLine rules second subject text old line new)
-
--- the header of a request: without rules the client's, with rules that of a user agent
-abbrev pub Sends : Option Rules → List Row → Parts → ℤ → List ℕ → Type 0
-Sends None rows url now header = IsHeader rows url now header
-Sends (Some rules) rows url now header = IsHeaderBehind rules rows url now header
-
--- this is the header of a request to the URL, and whether it has a control character
-abbrev pub HeadsSo : Bool → Option Rules → ℤ → List ℕ → List Row → List ℕ → Type 0
-HeadsSo is_broken rules second subject rows header = (has_control header ≡ is_broken)
-    × ((url : Parts) × IsUrl subject url × Sends rules rows url (nanos_of second) header)
-
--- the answer is that header, and has none
-abbrev pub Heads : Option Rules → ℤ → List ℕ → List Row → List ℕ → Type 0
-Heads rules second subject rows answer = HeadsSo false rules second subject rows answer
-
--- that header has one
-abbrev pub IsBroken : Option Rules → ℤ → List ℕ → List Row → Type 0
-IsBroken rules second subject rows = (header : List ℕ) × HeadsSo true rules second subject rows header
-
--- what is wrong with a second, a URL and the header of the request
-abbrev pub IsHeaderFault : Option Rules → ℤ → List ℕ → List Row → Refusal → Type 0
-IsHeaderFault rules second subject rows refused = ((refused ≡ refusal.Moment) × IsNoMoment second)
-    ⊎ ((refused ≡ refusal.Url) × IsNoUrl subject)
-    ⊎ ((refused ≡ refusal.Line) × IsBroken rules second subject rows)
-
--- a page of this URL starts a request, and whether that is a navigation of the top level by a safe method
-abbrev pub IsStartedBy : Parts → Bool → Initiator → Type 0
-IsStartedBy page is_let initiator =
-    IsSomeAnd initiator.page (λ from. from.now ≡ page) × (is_safe_navigation initiator ≡ is_let)
-
--- without rules none is on
-abbrev pub rules_on : Option Rules → Rules
-rules_on None = ruled 0
-rules_on (Some rules) = rules
-
--- the header of a request that the page starts so
-abbrev pub SendsFrom : Option Rules → Store → Parts → Parts → Bool → ℤ → List ℕ → Type 0
-SendsFrom rules store url page is_let now header = (initiator : Initiator) × IsStartedBy page is_let initiator
-    × IsHeaderFor (rules_on rules) store.suffixes store.rows url initiator now header
-
--- this is the header of a request that the page of the text starts so, and whether it has a control character
-abbrev pub HeadsFromSo : Bool → Option Rules → Bool → ℤ → List ℕ → List ℕ → Store → List ℕ → Type 0
-HeadsFromSo is_broken rules is_let second subject text store header = (has_control header ≡ is_broken)
-    × ((url : Parts) × (page : Parts) × IsUrl subject url × IsUrl text page
-    × SendsFrom rules store url page is_let (nanos_of second) header)
-
-unfoldable pub HeadsFrom : Option Rules → Bool → ℤ → List ℕ → List ℕ → Store → List ℕ → Type 0
-HeadsFrom rules is_let second subject text store answer =
-    HeadsFromSo false rules is_let second subject text store answer
-
-abbrev pub IsBrokenFrom : Option Rules → Bool → ℤ → List ℕ → List ℕ → Store → Type 0
-IsBrokenFrom rules is_let second subject text store =
-    (header : List ℕ) × HeadsFromSo true rules is_let second subject text store header
-
--- what is wrong with a second, a URL, that of the page and the header
-unfoldable pub IsStartedFault : Option Rules → Bool → ℤ → List ℕ → List ℕ → Store → Refusal → Type 0
-IsStartedFault rules is_let second subject text store refused = ((refused ≡ refusal.Moment) × IsNoMoment second)
-    ⊎ ((refused ≡ refusal.Url) × (IsNoUrl subject ⊎ IsNoUrl text))
-    ⊎ ((refused ≡ refusal.Line) × IsBrokenFrom rules is_let second subject text store)
+-- a request that is started so
+abbrev pub request_of : Start → Given → Request
+request_of start given = record { second = given.number; url = given.subject; start = start; page = given.page }
 
 -- the answer is its saved text
 abbrev pub IsSavedText : ℤ → List Row → List ℕ → Type 0
@@ -180,39 +82,32 @@ IsNoReload subject refused =
 abbrev pub IsNoWholeText : List Row → Refusal → Type 0
 IsNoWholeText rows refused = (refused ≡ refusal.Memory) ⊎ ((refused ≡ refusal.Year) × IsAnyBeforeYears rows)
 
-abbrev pub Does : Task → Given → Option Rules → Store → List ℕ → Store → Type 0
-Does task.Receive given rules old answer new = Receives rules given.number given.subject given.text old answer new
-Does task.Header given rules old answer new = (new ≡ old) × Heads rules given.number given.subject old.rows answer
+abbrev pub Does : Task → Given → Rules → Store → List ℕ → Store → Type 0
+Does (task.Receive start) given rules old answer new =
+    Receives rules (request_of start given) given.text old answer new
+Does (task.Header start) given rules old answer new = (new ≡ old) × Heads rules (request_of start given) old answer
 Does task.Save given rules old answer new = (new ≡ old) × IsSavedText given.number old.rows answer
 Does task.Restart given rules old answer new = (answer ≡ []) × Restarts given.number old new
 Does task.SaveAll given rules old answer new = (new ≡ old) × IsWholeText old.rows answer
 Does task.Reload given rules old answer new = (answer ≡ []) × Reloads given.subject old new
 Does task.Count given rules old answer new = (new ≡ old) × IsCount given.number old.rows answer
 Does task.List given rules old answer new = (new ≡ old) × IsListing given.number old.rows answer
-Does task.Fetch given rules old answer new =
-    (new ≡ old) × HeadsFrom rules false given.number given.subject given.text old answer
-Does task.Navigate given rules old answer new =
-    (new ≡ old) × HeadsFrom rules true given.number given.subject given.text old answer
 Does task.Clear given rules old answer new = (answer ≡ []) × (new ≡ record old { rows = [] })
 Does task.Import given rules old answer new = Imports (nanos_of given.number) given.text old answer new
 Does (task.Export reader sessions) given rules old answer new =
     (new ≡ old) × Exports reader sessions (nanos_of given.number) old.rows answer
 
-abbrev pub Refuses : Task → Given → Option Rules → Store → Refusal → Store → Type 0
-Refuses task.Receive given rules old refused new =
-    RefusesLines rules given.number given.subject given.text old refused new
-Refuses task.Header given rules old refused new =
-    (new ≡ old) × IsTold (IsHeaderFault rules given.number given.subject old.rows) refused
+abbrev pub Refuses : Task → Given → Rules → Store → Refusal → Store → Type 0
+Refuses (task.Receive start) given rules old refused new =
+    RefusesLines rules (request_of start given) given.text old refused new
+Refuses (task.Header start) given rules old refused new =
+    (new ≡ old) × IsTold (IsHeaderFault rules (request_of start given) old) refused
 Refuses task.Save given rules old refused new = (new ≡ old) × IsTold (IsSavingFault given.number old.rows) refused
 Refuses task.Restart given rules old refused new = (new ≡ old) × IsTold (IsSavingFault given.number old.rows) refused
 Refuses task.SaveAll given rules old refused new = (new ≡ old) × IsNoWholeText old.rows refused
 Refuses task.Reload given rules old refused new = (new ≡ old) × IsNoReload given.subject refused
 Refuses task.Count given rules old refused new = (new ≡ old) × IsNoListing given.number refused
 Refuses task.List given rules old refused new = (new ≡ old) × IsNoListing given.number refused
-Refuses task.Fetch given rules old refused new =
-    (new ≡ old) × IsTold (IsStartedFault rules false given.number given.subject given.text old) refused
-Refuses task.Navigate given rules old refused new =
-    (new ≡ old) × IsTold (IsStartedFault rules true given.number given.subject given.text old) refused
 Refuses task.Clear given rules old refused new = ⊥
 Refuses task.Import given rules old refused new = (new ≡ old) × IsNoListing given.number refused
 Refuses (task.Export reader sessions) given rules old refused new = (new ≡ old) × IsNoListing given.number refused
@@ -278,14 +173,14 @@ FailsBy by.ShardOfUrl second subject list refused = HasNoShardAtIn subject refus
 -- what a word makes of what a handle has beside its answer: its list, its rules and its client, where they are there
 pub record State : Type 0 where
   pub list : Option (List Rule)
-  pub rules : Option Rules
+  pub rules : Rules
   pub client : Option Store
 
 abbrev pub MakesOf : ByList → ℤ → List ℕ → Option (List Rule) → Option Store → List ℕ → Option Store → Type 0
 MakesOf by second subject None old answer new = ⊥
 MakesOf by second subject (Some list) old answer new = MakesBy by second subject list old answer new
 
-abbrev pub DoesOf : Task → Given → Option Rules → Option Store → List ℕ → Option Store → Type 0
+abbrev pub DoesOf : Task → Given → Rules → Option Store → List ℕ → Option Store → Type 0
 DoesOf task given rules None answer new = ⊥
 DoesOf task given rules (Some old) answer new =
     (client : Store) × (new ≡ Some client) × Does task given rules old answer client
@@ -309,7 +204,7 @@ abbrev pub FailsOf : ByList → ℤ → List ℕ → Option (List Rule) → Refu
 FailsOf by second subject None refused = refused ≡ refusal.NoList
 FailsOf by second subject (Some list) refused = FailsBy by second subject list refused
 
-abbrev pub RefusesOf : Task → Given → Option Rules → Option Store → Refusal → Option Store → Type 0
+abbrev pub RefusesOf : Task → Given → Rules → Option Store → Refusal → Option Store → Type 0
 RefusesOf task given rules None refused new = (new ≡ None) × (refused ≡ refusal.NoClient)
 RefusesOf task given rules (Some old) refused new =
     (client : Store) × (new ≡ Some client) × Refuses task given rules old refused client

@@ -1,4 +1,4 @@
-//! What a call is given: a moment, a URL, a list, lines.
+//! What a call is given: texts, a moment, a URL, a list, lines.
 ghost use Rattle.std.specs.Prelude.{◌≡◌, ◌≢◌, ◌↔◌, ◌⊎◌, ◌∷◌, [], map, IfOk, IfErr, IsTrue, Some, None, false};
 ghost use Rattle.std.specs.List.{list_any, slice_split};
 ghost use Rattle.jiff.specs.Words.{civil_nanos};
@@ -12,7 +12,34 @@ use jiff::SignedDuration;
 use jiff::civil::{DateTime, datetime};
 use publicsuffix::{List, ListError};
 use std::alloc::{AllocError, Global};
+use std::marker::Model;
 use url::{ParseError, Url};
+
+/// What a call by a handle is given.
+#[derive(Drop)]
+pub struct Given<'t> {
+    /// A second since 1970, or the flags of rules.
+    pub number: i64,
+    /// A URL, a saved text or a host.
+    pub subject: &'t [u8],
+    /// The URL of the page that starts a request, as [`user_agent::Initiator`] has it.
+    pub page: &'t [u8],
+    /// Lines or a suffix list.
+    pub text: &'t [u8],
+}
+
+impl<'t> Model for Given<'t> {
+    ghost use Rattle.fonnalich_c.specs.Tasks.{Given};
+
+    ghost Value = { Given };
+
+    ghost view = { λ g. record {
+      number = g.number;
+      subject = g.subject.now;
+      page = g.page.now;
+      text = g.text.now;
+    } };
+}
 
 /// The moment of this many seconds since 1970-01-01T00:00:00, read as UTC.
 pub fn moment(second: i64) -> Result<DateTime, Refusal>

@@ -1,20 +1,20 @@
 //! What a handle holds, and what a call does with it.
-ghost use Rattle.std.specs.Prelude.{◌≡◌, ◌≢◌, ◌∷◌, [], length, IfOk, IfErr, None, Some};
+ghost use Rattle.std.specs.Prelude.{◌≡◌, ◌≢◌, ◌∷◌, [], IfOk, IfErr, Some};
 ghost use Rattle.cookie_store.specs.Rows.{key};
 ghost use Rattle.fonnalich_c.specs.Given.{lines_of};
 ghost use Rattle.fonnalich_c.specs.Handle as spec;
 ghost use Rattle.fonnalich_c.specs.Numbers.{receive_word};
 ghost use Rattle.fonnalich_c.specs.One.{ActsOnOne};
-ghost use Rattle.fonnalich_c.specs.Started.{ActsOnReceipt};
+ghost use Rattle.fonnalich_c.specs.Tasks.{DoesOf, RefusesOf};
+ghost use Rattle.fonnalich_c.specs.declared.word.Task.TheVariants.{Receive};
 
-use crate::given::is_one_line;
-use crate::line::line_end;
+use crate::given::{Given, is_one_line};
 use crate::one::{Key, Pick, told};
 use crate::refusal::Refusal;
 use crate::room::write;
-use crate::started::{AnswerTexts, Start, received};
+use crate::started::{Start, receive_line};
 use crate::task::{Browsing, answer};
-use crate::word::{ANSWER, RECEIVE, Word};
+use crate::word::{ANSWER, Task, Word};
 use cookie_client::Client;
 use publicsuffix::List;
 use std::alloc::Global;
@@ -35,18 +35,13 @@ pub struct Held {
 
 /// What a new handle holds: the rules of browsers alone.
 pub(crate) fn fresh(alloc: Global) -> Held
-    ensures { spec.IsFresh (record {
-      client = result.client;
-      list = result.list;
-      rules = result.browsing.rules;
-      kept = result.kept.items;
-    }) }
+    ensures { spec.IsFresh (spec.view result) }
 {
     Held {
         client: None,
         list: None,
         browsing: Browsing {
-            rules: Some(Rules::browser()),
+            rules: Rules::browser(),
             page: None,
             second: None,
         },
@@ -69,36 +64,71 @@ pub(crate) fn work(
     text: &[u8],
     out: &mut [u8],
 ) -> isize
-    ensures { spec.Acts word (record { number = number; subject = subject.now; text = text.now })
-        (record {
-          client = held.old.client;
-          list = held.old.list;
-          rules = held.old.browsing.rules;
-          kept = held.old.kept.items;
-        }) out.old
-        (record {
-          client = held.new.client;
-          list = held.new.list;
-          rules = held.new.browsing.rules;
-          kept = held.new.kept.items;
-        }) out.new
-        result }
+    ensures { spec.Acts word (record { number = number; subject = subject.now; page = text.now; text = text.now })
+        (spec.view held.old) out.old (spec.view held.new) out.new result }
 {
     if word == ANSWER {
         return hand_out(&mut held.kept, out);
     }
-    if word == RECEIVE && !out.is_empty() && held.browsing.rules.is_none() && is_one_line(text) {
-        return take_line(alloc, held, number, subject, text, out);
+    let given = Given {
+        number,
+        subject,
+        page: text,
+        text,
+    };
+    act(alloc, held, Word::of(word), &given, out)
+}
+
+/// Takes the lines of an answer to a request that is started so, and hands out what became of each.
+pub(crate) fn receive_for(
+    alloc: Global,
+    held: &mut Held,
+    started: u32,
+    second: i64,
+    url: &[u8],
+    page: &[u8],
+    lines: &[u8],
+    out: &mut [u8],
+) -> isize
+    ensures { spec.ActsOnReceipt started
+        (record { number = second; subject = url.now; page = page.now; text = lines.now }) (spec.view held.old) out.old
+        (spec.view held.new) out.new result }
+{
+    let given = Given {
+        number: second,
+        subject: url,
+        page,
+        text: lines,
+    };
+    let word = match Start::of(started) {
+        Some(start) => Some(Word::receive(start)),
+        None => None,
+    };
+    act(alloc, held, word, &given, out)
+}
+
+// Hands out what a word makes. Of a line by itself no list is made, where there is room for the number.
+fn act(
+    alloc: Global,
+    held: &mut Held,
+    word: Option<Word>,
+    given: &Given<'_>,
+    out: &mut [u8],
+) -> isize
+    ensures { spec.ActsBy word given.now (spec.view held.old) out.old (spec.view held.new) out.new result }
+{
+    if let Some(Word::Ask(Task::Receive(start))) = word {
+        if !out.is_empty() && is_one_line(given.text) {
+            return take_line(alloc, held, start, given, out);
+        }
     }
     match answer(
         alloc,
         &mut held.client,
         &mut held.list,
         &mut held.browsing,
-        Word::of(word),
-        number,
-        subject,
-        text,
+        word,
+        given,
     ) {
         Ok(answer) => {
             held.kept = answer;
@@ -108,41 +138,20 @@ pub(crate) fn work(
     }
 }
 
-// Takes a line by itself without rules, and writes the number of what became of it.
+// Takes a line by itself, and writes the number of what became of it.
 fn take_line(
     alloc: Global,
     held: &mut Held,
-    second: i64,
-    subject: &[u8],
-    line: &[u8],
+    start: Start,
+    given: &Given<'_>,
     out: &mut [u8],
 ) -> isize
-    requires none { held.old.browsing.rules ≡ None }
-    requires one { lines_of line.now ≡ line.now ∷ [] }
+    requires one { lines_of given.now.text ≡ given.now.text ∷ [] }
     requires room { out.old ≢ [] }
-    ensures { spec.Acts receive_word (record { number = second; subject = subject.now; text = line.now })
-        (record {
-          client = held.old.client;
-          list = held.old.list;
-          rules = held.old.browsing.rules;
-          kept = held.old.kept.items;
-        }) out.old
-        (record {
-          client = held.new.client;
-          list = held.new.list;
-          rules = held.new.browsing.rules;
-          kept = held.new.kept.items;
-        }) out.new
-        result }
+    ensures { spec.ActsBy (Some (receive_word start)) given.now (spec.view held.old) out.old (spec.view held.new)
+        out.new result }
 {
-    match line_end(
-        alloc,
-        &mut held.client,
-        &mut held.browsing,
-        second,
-        subject,
-        line,
-    ) {
+    match line_number(alloc, &mut held.client, &mut held.browsing, start, given) {
         Ok(number) => {
             held.kept.clear();
             write(&[number], out)
@@ -151,21 +160,30 @@ fn take_line(
     }
 }
 
+// The number of what became of it, by the client where there is one.
+fn line_number(
+    alloc: Global,
+    client: &mut Option<Client>,
+    browsing: &mut Browsing,
+    start: Start,
+    given: &Given<'_>,
+) -> Result<u8, Refusal>
+    requires one { lines_of given.now.text ≡ given.now.text ∷ [] }
+    ensures ok { IfOk result (λ number. DoesOf (Receive start) given.now browsing.old.rules client.old (number ∷ [])
+        client.new) }
+    ensures err { IfErr result (λ refused. RefusesOf (Receive start) given.now browsing.old.rules client.old refused
+        client.new) }
+    ensures rules { browsing.new.rules ≡ browsing.old.rules }
+{
+    match client {
+        Some(client) => receive_line(alloc, client, browsing, start, given),
+        None => Err(Refusal::NoClient),
+    }
+}
+
 /// Has a handle keep the list that another keeps, which stays as it is.
 pub(crate) fn share(held: &mut Held, other: &mut Held) -> isize
-    ensures { spec.Shares other.old.list
-        (record {
-          client = held.old.client;
-          list = held.old.list;
-          rules = held.old.browsing.rules;
-          kept = held.old.kept.items;
-        })
-        (record {
-          client = held.new.client;
-          list = held.new.list;
-          rules = held.new.browsing.rules;
-          kept = held.new.kept.items;
-        }) result × (other.new ≡ other.old) }
+    ensures { spec.Shares other.old.list (spec.view held.old) (spec.view held.new) result × (other.new ≡ other.old) }
 {
     match shared(&other.list) {
         Ok(list) => {
@@ -198,67 +216,11 @@ pub(crate) fn pick_one(
     name: &[u8],
     out: &mut [u8],
 ) -> isize
-    ensures { ActsOnOne word second (key domain.now path.now name.now)
-        (record {
-          client = held.old.client;
-          list = held.old.list;
-          rules = held.old.browsing.rules;
-          kept = held.old.kept.items;
-        }) out.old
-        (record {
-          client = held.new.client;
-          list = held.new.list;
-          rules = held.new.browsing.rules;
-          kept = held.new.kept.items;
-        }) out.new
-        result }
+    ensures { ActsOnOne word second (key domain.now path.now name.now) (spec.view held.old) out.old
+        (spec.view held.new) out.new result }
 {
     let texts = Key { domain, path, name };
     match told(alloc, &mut held.client, Pick::of(word), second, texts) {
-        Ok(answer) => {
-            held.kept = answer;
-            hand_out(&mut held.kept, out)
-        }
-        Err(refusal) => refusal.number(),
-    }
-}
-
-/// Takes the lines of an answer to a request that is started so, and hands out what became of each.
-pub(crate) fn receive_for(
-    alloc: Global,
-    held: &mut Held,
-    started: u32,
-    second: i64,
-    url: &[u8],
-    page: &[u8],
-    lines: &[u8],
-    out: &mut [u8],
-) -> isize
-    ensures { ActsOnReceipt started
-        (record { second = second; url = url.now; page = page.now; lines = lines.now })
-        (record {
-          client = held.old.client;
-          list = held.old.list;
-          rules = held.old.browsing.rules;
-          kept = held.old.kept.items;
-        }) out.old
-        (record {
-          client = held.new.client;
-          list = held.new.list;
-          rules = held.new.browsing.rules;
-          kept = held.new.kept.items;
-        }) out.new
-        result }
-{
-    let texts = AnswerTexts { url, page, lines };
-    match received(
-        alloc,
-        &mut held.client,
-        &mut held.browsing,
-        Start::of(started),
-        second,
-        texts,
-    ) {
         Ok(answer) => {
             held.kept = answer;
             hand_out(&mut held.kept, out)

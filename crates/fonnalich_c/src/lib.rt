@@ -9,15 +9,13 @@ ghost use types.Logic.{sem};
 ghost use base.Fml.{fex, fsep, ftrue};
 ghost use Rattle.std.specs.Ptr.{points_to, room_at};
 ghost use Rattle.cookie_store.specs.Rows.{key};
-ghost use Rattle.fonnalich_c.specs.Exchange.{IsExchange, IsNoExchange};
-ghost use Rattle.fonnalich_c.specs.Handle.{IsFresh, Acts, Shares};
+ghost use Rattle.fonnalich_c.specs.Exchange.{IsExchange, IsNoExchange, IsRingExchange, IsNoRingExchange};
+ghost use Rattle.fonnalich_c.specs.Handle.{IsFresh, Acts, ActsOnReceipt, Shares, view};
 ghost use Rattle.fonnalich_c.specs.One.{ActsOnOne};
 ghost use Rattle.fonnalich_c.specs.Plain.{TellsPlain};
 ghost use Rattle.fonnalich_c.specs.Parts.{GivesParts, IsPrinted, IsUnprinted};
 ghost use Rattle.cookie_client.specs.Version.{version};
-ghost use Rattle.fonnalich_c.specs.RingExchange.{IsRingExchange, IsNoRingExchange};
 ghost use Rattle.fonnalich_c.specs.Room.{Gives, IsWritten};
-ghost use Rattle.fonnalich_c.specs.Started.{ActsOnReceipt};
 ghost use Rattle.fonnalich_c.specs.Shard.{IsShardBy, IsShardAtText, HasNoShard, HasNoShardAt};
 ghost use Rattle.fonnalich_c.specs.Suffix.{IsSuffixOf, HasNoSuffix};
 ghost use Rattle.fonnalich_c.specs.Words.{text_of};
@@ -34,7 +32,6 @@ mod given;
 mod held;
 mod importing;
 mod item;
-mod line;
 mod listing;
 mod nonce;
 mod one;
@@ -42,8 +39,6 @@ mod page;
 mod plain;
 mod refusal;
 mod ring;
-mod ring_command;
-mod ring_exchange;
 mod room;
 mod rule;
 mod second;
@@ -57,10 +52,9 @@ mod words;
 
 use crate::apart::apart;
 use crate::attributes::Attributes;
-use crate::exchange::exchange;
+use crate::exchange::{exchange, ring_exchange};
 use crate::held::{Held, fresh, let_go, pick_one, receive_for, share, work};
 use crate::plain::plain_number;
-use crate::ring_exchange::ring_exchange;
 use crate::room::write;
 use crate::shard::{shard, shard_at};
 use crate::suffix::suffix;
@@ -105,9 +99,7 @@ pub extern "C" fn fonnalich_text(number: i64, out: &mut [u8]) -> isize
 pub unsafe extern "C" fn fonnalich_place(alloc: Global, at: *mut u8)
     requires* { sem 𝓛 (room_at held.the_row at) }
     ensures* { sem 𝓛 (fex held.the_row.Denot (λ w. fsep
-        (fex (IsFresh (record { client = w.client; list = w.list; rules = w.browsing.rules; kept = w.kept.items }))
-        (λ _. ftrue))
-        (points_to held.the_row at w))) }
+        (fex (IsFresh (view w)) (λ _. ftrue)) (points_to held.the_row at w))) }
 {
     let place = at as *mut Held;
     place.write(fresh(alloc));
@@ -127,10 +119,8 @@ pub unsafe extern "C" fn fonnalich_act(
     ghost value: { Held }
     requires* { sem 𝓛 (points_to held.the_row at value) }
     ensures* { sem 𝓛 (fex held.the_row.Denot (λ w. fsep
-        (fex (Acts word (record { number = number; subject = subject.now; text = text.now })
-        (record { client = value.client; list = value.list; rules = value.browsing.rules; kept = value.kept.items })
-        out.old (record { client = w.client; list = w.list; rules = w.browsing.rules; kept = w.kept.items }) out.new
-        result) (λ _. ftrue))
+        (fex (Acts word (record { number = number; subject = subject.now; page = text.now; text = text.now })
+        (view value) out.old (view w) out.new result) (λ _. ftrue))
         (points_to held.the_row at w))) }
 {
     work(
@@ -160,9 +150,7 @@ pub unsafe extern "C" fn fonnalich_one(
     ghost value: { Held }
     requires* { sem 𝓛 (points_to held.the_row at value) }
     ensures* { sem 𝓛 (fex held.the_row.Denot (λ w. fsep
-        (fex (ActsOnOne word second (key domain.now path.now name.now)
-        (record { client = value.client; list = value.list; rules = value.browsing.rules; kept = value.kept.items })
-        out.old (record { client = w.client; list = w.list; rules = w.browsing.rules; kept = w.kept.items }) out.new
+        (fex (ActsOnOne word second (key domain.now path.now name.now) (view value) out.old (view w) out.new
         result) (λ _. ftrue))
         (points_to held.the_row at w))) }
 {
@@ -199,10 +187,8 @@ pub unsafe extern "C" fn fonnalich_receive_for(
     requires* { sem 𝓛 (points_to held.the_row at value) }
     ensures* { sem 𝓛 (fex held.the_row.Denot (λ w. fsep
         (fex (ActsOnReceipt started
-        (record { second = second; url = url.now; page = page.now; lines = lines.now })
-        (record { client = value.client; list = value.list; rules = value.browsing.rules; kept = value.kept.items })
-        out.old (record { client = w.client; list = w.list; rules = w.browsing.rules; kept = w.kept.items }) out.new
-        result) (λ _. ftrue))
+        (record { number = second; subject = url.now; page = page.now; text = lines.now }) (view value) out.old
+        (view w) out.new result) (λ _. ftrue))
         (points_to held.the_row at w))) }
 {
     receive_for(
@@ -224,15 +210,7 @@ pub unsafe extern "C" fn fonnalich_share(at: *mut u8, other: *mut u8) -> isize
     ghost values: { Held × Held }
     requires* { sem 𝓛 (fsep (points_to held.the_row at values.0) (points_to held.the_row other values.1)) }
     ensures* { sem 𝓛 (fex held.the_row.Denot (λ w. fsep
-        (fex (Shares values.1.list
-        (record {
-          client = values.0.client;
-          list = values.0.list;
-          rules = values.0.browsing.rules;
-          kept = values.0.kept.items;
-        })
-        (record { client = w.client; list = w.list; rules = w.browsing.rules; kept = w.kept.items }) result)
-        (λ _. ftrue))
+        (fex (Shares values.1.list (view values.0) (view w) result) (λ _. ftrue))
         (fsep (points_to held.the_row at w) (points_to held.the_row other values.1)))) }
 {
     share(&mut *(at as *mut Held), &mut *(other as *mut Held))

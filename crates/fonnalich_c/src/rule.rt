@@ -5,22 +5,19 @@ ghost use Rattle.fonnalich_c.specs.Rules as spec;
 use crate::refusal::{Refusal, end_number};
 use user_agent::{Outcome, OutcomeFor, Refusal as Rule, Rules, SiteRefusal};
 
-/// The rules whose flags are set in a number, or none where it is 0.
-pub fn rules_of(number: i64) -> Result<Option<Rules>, Refusal>
+/// The rules whose flags are set in a number.
+pub fn rules_of(number: i64) -> Result<Rules, Refusal>
     ensures ok { IfOk result (spec.IsFlags number) }
     ensures err { IfErr result (λ refused. (refused ≡ Refusal.Rules) × spec.IsNoFlags number) }
 {
-    if number == 0 {
-        return Ok(None);
-    }
-    if 0 < number && number < 4096 {
-        return Ok(Some(ruled(number as u64)));
+    if 0 <= number && number < 4096 {
+        return Ok(ruled(number as u64));
     }
     Err(Refusal::Rules)
 }
 
-/// The rules whose flags are set.
-pub(crate) fn ruled(flags: u64) -> Rules
+// The rules whose flags are set.
+fn ruled(flags: u64) -> Rules
     ensures { result ≡ spec.ruled flags }
 {
     Rules {

@@ -1,24 +1,29 @@
-//! The lines of an answer, where it is said what started its request.
-ghost use Rattle.std.specs.Prelude.{◌≡◌, ◌⊎◌, ◌≤◌, ℕ, List, [], IfErr, IfOk, Some, length, map, vec_capacity};
+//! A request and what starts it: the lines of its answer, and its header.
+ghost use Rattle.std.specs.Prelude.{◌≡◌, ◌≤◌, ◌⊎◌, ◌∷◌, ℕ, List, [], length, map, option_map, vec_capacity};
+ghost use Rattle.std.specs.Prelude.{IfOk, IfErr};
 ghost use Rattle.jiff.specs.Words.{civil_nanos};
 ghost use Rattle.user_agent.specs.CrossAnswers.{ReceivesFor, IsStoppedFor};
 ghost use Rattle.user_agent.specs.declared.cross_answer.OutcomeFor.{OutcomeFor};
-ghost use Rattle.fonnalich_c.specs.Given.{lines_of};
+ghost use Rattle.fonnalich_c.specs.Faults.{IsTold};
+ghost use Rattle.fonnalich_c.specs.Given.{IsUrl, lines_of, nanos_of};
 ghost use Rattle.fonnalich_c.specs.Rules.{outcome_for_number};
 ghost use Rattle.fonnalich_c.specs.Started as spec;
+ghost use Rattle.fonnalich_c.specs.Tasks.{request_of};
 
-use crate::given::{lines, url};
-use crate::page::url_at;
+use crate::control::has_control;
+use crate::given::{Given, lines, url};
+use crate::page::{Page, url_at};
 use crate::refusal::Refusal;
 use crate::rule::outcome_for_number;
-use crate::second::date_at;
-use crate::task::{Browsing, rules_on};
+use crate::second::{Second, date_at};
+use crate::task::Browsing;
 use cookie_client::Client;
 use jiff::civil::DateTime;
 use std::alloc::Global;
 use url::Url;
-use user_agent::cross_answer::receive_for;
-use user_agent::{Initiator, OutcomeFor, Rules};
+use user_agent::cross_answer::{comes_across, receive_for};
+use user_agent::cross_site::header_for;
+use user_agent::{Initiator, OutcomeFor, Rules, SecurePlaces, take};
 
 /// What starts a request.
 #[derive(Clone, Copy, Debug, PartialEq, Eq)]
@@ -27,7 +32,8 @@ pub enum Start {
     User,
     /// A page, but for a navigation of the top level.
     Page,
-    /// A page, by a navigation of the top level, whatever its method is.
+    /// A page, by a navigation of the top level. A header is that of one by a safe method; of lines the method is not
+    /// looked at.
     Navigation,
 }
 
@@ -45,111 +51,124 @@ impl Start {
     }
 }
 
-/// The texts of a receipt.
-#[derive(Clone, Copy)]
-pub(crate) struct AnswerTexts<'t> {
-    /// The URL of the request.
-    pub url: &'t [u8],
-    /// That of the page that starts it, as [`user_agent::Initiator`] has it.
-    pub page: &'t [u8],
-    /// The lines of its answer.
-    pub lines: &'t [u8],
+/// A request whose texts were read.
+#[derive(Drop)]
+struct Request<'p> {
+    url: &'p Url,
+    page: Option<Url>,
+    now: DateTime,
 }
 
-/// The numbers of what became of the lines, by the client where there is one.
-pub(crate) fn received(
-    alloc: Global,
-    client: &mut Option<Client>,
-    browsing: &mut Browsing,
-    start: Option<Start>,
-    second: i64,
-    texts: AnswerTexts<'_>,
-) -> Result<Vec<u8>, Refusal>
-    ensures ok { IfOk result (λ answer. spec.ReceivesOf start browsing.old.rules (record {
-      second = second;
-      url = texts.entry.url.now;
-      page = texts.entry.page.now;
-      lines = texts.entry.lines.now;
-    }) client.old answer.items client.new) }
-    ensures err { IfErr result (λ refused. spec.IsNoReceipt start browsing.old.rules (record {
-      second = second;
-      url = texts.entry.url.now;
-      page = texts.entry.page.now;
-      lines = texts.entry.lines.now;
-    }) client.old refused client.new) }
-    ensures rules { browsing.new.rules ≡ browsing.old.rules }
-{
-    match start {
-        Some(start) => receive_of(alloc, client, browsing, start, second, texts),
-        None => Err(Refusal::Word),
-    }
-}
-
-// The same where it is known what started the request.
-fn receive_of(
-    alloc: Global,
-    client: &mut Option<Client>,
-    browsing: &mut Browsing,
-    start: Start,
-    second: i64,
-    texts: AnswerTexts<'_>,
-) -> Result<Vec<u8>, Refusal>
-    ensures ok { IfOk result (λ answer. spec.ReceivesOf (Some start) browsing.old.rules (record {
-      second = second;
-      url = texts.entry.url.now;
-      page = texts.entry.page.now;
-      lines = texts.entry.lines.now;
-    }) client.old answer.items client.new) }
-    ensures err { IfErr result (λ refused. spec.IsNoReceipt (Some start) browsing.old.rules (record {
-      second = second;
-      url = texts.entry.url.now;
-      page = texts.entry.page.now;
-      lines = texts.entry.lines.now;
-    }) client.old refused client.new) }
-    ensures rules { browsing.new.rules ≡ browsing.old.rules }
-{
-    match client {
-        Some(client) => receive_so(alloc, client, browsing, start, second, texts),
-        None => Err(Refusal::NoClient),
-    }
-}
-
-// The same by a client.
-fn receive_so(
+/// Takes the lines of an answer. There is room for what is said of them before one is taken.
+pub(crate) fn receive(
     alloc: Global,
     client: &mut Client,
     browsing: &mut Browsing,
     start: Start,
-    second: i64,
-    texts: AnswerTexts<'_>,
+    given: &Given<'_>,
 ) -> Result<Vec<u8>, Refusal>
-    ensures ok { IfOk result (λ answer. spec.ReceivesSo browsing.old.rules start (record {
-      second = second;
-      url = texts.entry.url.now;
-      page = texts.entry.page.now;
-      lines = texts.entry.lines.now;
-    }) client.old answer.items client.new) }
-    ensures err { IfErr result (λ refused. spec.RefusesSo browsing.old.rules start (record {
-      second = second;
-      url = texts.entry.url.now;
-      page = texts.entry.page.now;
-      lines = texts.entry.lines.now;
-    }) client.old refused client.new) }
+    ensures ok { IfOk result (λ answer. spec.Receives browsing.old.rules (request_of start given.now) given.now.text
+        client.old answer.items client.new) }
+    ensures err { IfErr result (λ refused. spec.RefusesLines browsing.old.rules (request_of start given.now)
+        given.now.text client.old refused client.new) }
     ensures rules { browsing.new.rules ≡ browsing.old.rules }
 {
-    let now = date_at(&mut browsing.second, second)?;
-    let page = page_of(alloc, start, texts.page)?;
-    let url = url_at(alloc, &mut browsing.page, texts.url)?;
-    let initiator = Initiator {
-        page: page.as_ref(),
-        is_navigation: navigates(start),
-        is_safe: false,
-    };
-    let rules = rules_on(browsing.rules);
-    take(alloc, client, &rules, url, &initiator, texts.lines, now)
+    let request = read(
+        alloc,
+        &mut browsing.page,
+        &mut browsing.second,
+        start,
+        given,
+    )?;
+    let initiator = initiator(start, &request.page);
+    let (url, now, rules) = (request.url, request.now, browsing.rules);
+    take_all(alloc, client, &rules, url, &initiator, given.text, now)
 }
 
-// The page that starts the request, where one does: else its text isn't looked at.
+/// Takes the line of an answer that has no other, and gives the number of what became of it: no list is made of it.
+pub(crate) fn receive_line(
+    alloc: Global,
+    client: &mut Client,
+    browsing: &mut Browsing,
+    start: Start,
+    given: &Given<'_>,
+) -> Result<u8, Refusal>
+    requires one { lines_of given.now.text ≡ given.now.text ∷ [] }
+    ensures ok { IfOk result (λ number. spec.Receives browsing.old.rules (request_of start given.now) given.now.text
+        client.old (number ∷ []) client.new) }
+    ensures err { IfErr result (λ refused. spec.RefusesLines browsing.old.rules (request_of start given.now)
+        given.now.text client.old refused client.new) }
+    ensures rules { browsing.new.rules ≡ browsing.old.rules }
+{
+    let request = read(
+        alloc,
+        &mut browsing.page,
+        &mut browsing.second,
+        start,
+        given,
+    )?;
+    let across = comes_across(
+        client.store(),
+        request.url,
+        &initiator(start, &request.page),
+    );
+    let (url, now, rules) = (request.url, request.now, browsing.rules);
+    let secure = SecurePlaces::none();
+    match take(client, &rules, across, &secure, url, given.text, now) {
+        Ok((outcome, _)) => Ok(outcome_for_number(outcome)),
+        Err(_) => Err(Refusal::Stopped(1)),
+    }
+}
+
+/// The header of a request, if none of its bytes is a control character: one that is would begin a further field.
+pub(crate) fn header(
+    alloc: Global,
+    client: &Client,
+    browsing: &mut Browsing,
+    start: Start,
+    given: &Given<'_>,
+) -> Result<Vec<u8>, Refusal>
+    ensures ok { IfOk result (λ answer.
+        spec.Heads browsing.old.rules (request_of start given.now) client.now answer.items) }
+    ensures err { IfErr result
+        (IsTold (spec.IsHeaderFault browsing.old.rules (request_of start given.now) client.now)) }
+    ensures rules { browsing.new.rules ≡ browsing.old.rules }
+{
+    let request = read(
+        alloc,
+        &mut browsing.page,
+        &mut browsing.second,
+        start,
+        given,
+    )?;
+    let initiator = initiator(start, &request.page);
+    let (url, now, rules) = (request.url, request.now, browsing.rules);
+    let header = header_for(client, &rules, url, &initiator, now)?;
+    if has_control(header.as_bytes()) {
+        return Err(Refusal::Line);
+    }
+    Ok(header.into_bytes())
+}
+
+// Reads the texts of a request. Where no page starts it, the text of that isn't looked at.
+fn read<'p>(
+    alloc: Global,
+    last: &'p mut Option<Page>,
+    second: &mut Option<Second>,
+    start: Start,
+    given: &Given<'_>,
+) -> Result<Request<'p>, Refusal>
+    ensures ok { IfOk result (λ request. (civil_nanos request.now ≡ nanos_of given.now.number)
+        × IsUrl given.now.subject request.url.now × spec.IsPageOf start given.now.page request.page) }
+    ensures err { IfErr result (IsTold (spec.IsRequestFault (request_of start given.now))) }
+{
+    let now = date_at(second, given.number)?;
+    let page = page_of(alloc, start, given.page)?;
+    let url = url_at(alloc, last, given.subject)?;
+    Ok(Request { url, page, now })
+}
+
+// The page that starts a request, where one does.
 fn page_of(alloc: Global, start: Start, text: &[u8]) -> Result<Option<Url>, Refusal>
     ensures ok { IfOk result (spec.IsPageOf start text.now) }
     ensures err { IfErr result (λ refused.
@@ -161,7 +180,20 @@ fn page_of(alloc: Global, start: Start, text: &[u8]) -> Result<Option<Url>, Refu
     }
 }
 
-// Whether the request navigates the top level. Whose page the user's own is doesn't matter.
+// What starts a request, by the page that does.
+fn initiator<'r>(start: Start, page: &'r Option<Url>) -> Initiator<'r>
+    ensures page { option_map (λ page. page.now) result.page ≡ page.now }
+    ensures navigation { result.is_navigation ≡ spec.navigates start }
+    ensures safe { result.is_safe ≡ spec.navigates start }
+{
+    let navigates = navigates(start);
+    Initiator {
+        page: page.as_ref(),
+        is_navigation: navigates,
+        is_safe: navigates,
+    }
+}
+
 fn navigates(start: Start) -> bool
     ensures { result ≡ spec.navigates start }
 {
@@ -172,7 +204,7 @@ fn navigates(start: Start) -> bool
 }
 
 // Takes the lines of the text. There is room for what is said of them before one is taken.
-fn take(
+fn take_all(
     alloc: Global,
     client: &mut Client,
     rules: &Rules,

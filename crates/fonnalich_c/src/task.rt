@@ -1,43 +1,34 @@
 //! What the words make of a client.
-ghost use Rattle.std.specs.Prelude.{◌≡◌, ◌≤◌, ◌⊎◌, ◌∷◌, [], length, map, vec_capacity, IfOk, IfErr, OnErr, Some, None};
-ghost use Rattle.std.specs.Prelude.{false, string_bytes, true};
-ghost use Rattle.jiff.specs.Words.{civil_nanos};
-ghost use Rattle.fonnalich_c.specs.Control as control;
+ghost use Rattle.std.specs.Prelude.{◌≡◌, [], IfOk, IfErr, OnErr};
 ghost use Rattle.fonnalich_c.specs.Faults.{IsTold};
 ghost use Rattle.fonnalich_c.specs.Given.{IsNoListOf};
 ghost use Rattle.fonnalich_c.specs.Listing.{IsCount, IsListing, IsNoListing};
-ghost use Rattle.fonnalich_c.specs.Numbers.{end_number};
-ghost use Rattle.fonnalich_c.specs.Rules.{outcome_number};
 ghost use Rattle.fonnalich_c.specs.Tasks as spec;
 
 use crate::by_list::by_shelf;
-use crate::control::has_control;
 use crate::exporting::export;
-use crate::given::{lines, list, moment, url};
+use crate::given::{Given, list, moment};
 use crate::importing::import;
 use crate::listing::{count_of, listing};
-use crate::page::{Page, url_at};
-use crate::refusal::{Refusal, end_number};
-use crate::rule::{outcome_number, ruled, rules_of};
-use crate::second::{Second, date_at};
+use crate::page::Page;
+use crate::refusal::Refusal;
+use crate::rule::rules_of;
+use crate::second::Second;
+use crate::started::{header, receive};
 use crate::word::{Task, Word};
-use cookie_client::{Client, LineEnd};
+use cookie_client::Client;
 use cookie_store::serde::ron::save_incl_expired_and_nonpersistent;
 use cookie_store::{Counting, Error};
-use jiff::civil::DateTime;
 use kept_file::draft::Draft;
 use publicsuffix::List;
-use std::alloc::{AllocError, Global};
-use url::Url;
-use user_agent::agent::receive_all;
-use user_agent::cross_site::header_for;
-use user_agent::{Initiator, Outcome, Rules};
+use std::alloc::Global;
+use user_agent::Rules;
 
 /// How a handle browses, which it knows beside its client.
 #[derive(Drop)]
 pub struct Browsing {
-    /// The rules of its lines and headers, or none.
-    pub rules: Option<Rules>,
+    /// The rules of its lines and headers.
+    pub rules: Rules,
     /// The URL that was asked for last.
     pub page: Option<Page>,
     /// The second that was asked for last.
@@ -51,41 +42,37 @@ pub(crate) fn answer(
     shelf: &mut Option<List>,
     browsing: &mut Browsing,
     word: Option<Word>,
-    number: i64,
-    subject: &[u8],
-    text: &[u8],
+    given: &Given<'_>,
 ) -> Result<Vec<u8>, Refusal>
-    ensures ok { IfOk result (λ answer. spec.Makes word
-        (record { number = number; subject = subject.now; text = text.now })
+    ensures ok { IfOk result (λ answer. spec.Makes word given.now
         (record { list = shelf.old; rules = browsing.old.rules; client = client.old }) answer.items
         (record { list = shelf.new; rules = browsing.new.rules; client = client.new })) }
-    ensures err { IfErr result (λ refused. spec.Fails word
-        (record { number = number; subject = subject.now; text = text.now })
+    ensures err { IfErr result (λ refused. spec.Fails word given.now
         (record { list = shelf.old; rules = browsing.old.rules; client = client.old }) refused client.new) }
     ensures same { OnErr result ((shelf.new ≡ shelf.old) × (browsing.new.rules ≡ browsing.old.rules)) }
 {
     match word {
         Some(Word::List) => {
-            let first = first(alloc, text)?;
+            let first = first(alloc, given.text)?;
             *client = Some(first);
             Ok(Vec::new(alloc))
         }
         Some(Word::Load) => {
-            let loaded = loaded(alloc, number, subject, text)?;
+            let loaded = loaded(alloc, given)?;
             *client = Some(loaded);
             Ok(Vec::new(alloc))
         }
         Some(Word::Rules) => {
-            browsing.rules = rules_of(number)?;
+            browsing.rules = rules_of(given.number)?;
             Ok(Vec::new(alloc))
         }
         Some(Word::Keep) => {
-            let list = list(alloc, text)?;
+            let list = list(alloc, given.text)?;
             *shelf = Some(list);
             Ok(Vec::new(alloc))
         }
-        Some(Word::Ask(task)) => asked(alloc, client, browsing, task, number, subject, text),
-        Some(Word::By(by)) => by_shelf(alloc, shelf, client, by, number, subject),
+        Some(Word::Ask(task)) => asked(alloc, client, browsing, task, given),
+        Some(Word::By(by)) => by_shelf(alloc, shelf, client, by, given.number, given.subject),
         None => Err(Refusal::Word),
     }
 }
@@ -96,20 +83,16 @@ fn asked(
     client: &mut Option<Client>,
     browsing: &mut Browsing,
     task: Task,
-    number: i64,
-    subject: &[u8],
-    text: &[u8],
+    given: &Given<'_>,
 ) -> Result<Vec<u8>, Refusal>
-    ensures ok { IfOk result (λ answer. spec.DoesOf task
-        (record { number = number; subject = subject.now; text = text.now }) browsing.old.rules client.old answer.items
-        client.new) }
-    ensures err { IfErr result (λ refused. spec.RefusesOf task
-        (record { number = number; subject = subject.now; text = text.now }) browsing.old.rules client.old refused
-        client.new) }
+    ensures ok { IfOk result (λ answer.
+        spec.DoesOf task given.now browsing.old.rules client.old answer.items client.new) }
+    ensures err { IfErr result (λ refused.
+        spec.RefusesOf task given.now browsing.old.rules client.old refused client.new) }
     ensures rules { browsing.new.rules ≡ browsing.old.rules }
 {
     match client {
-        Some(client) => ask(alloc, client, browsing, task, number, subject, text),
+        Some(client) => ask(alloc, client, browsing, task, given),
         None => Err(Refusal::NoClient),
     }
 }
@@ -124,12 +107,12 @@ fn first(alloc: Global, text: &[u8]) -> Result<Client, Refusal>
 }
 
 // A client of a saved text, with the suffix list of another.
-fn loaded(alloc: Global, second: i64, saved: &[u8], text: &[u8]) -> Result<Client, Refusal>
-    ensures ok { IfOk result (spec.IsLoaded second saved.now text.now) }
-    ensures err { IfErr result (spec.IsNoLoad second saved.now text.now) }
+fn loaded(alloc: Global, given: &Given<'_>) -> Result<Client, Refusal>
+    ensures ok { IfOk result (spec.IsLoaded given.now.number given.now.subject given.now.text) }
+    ensures err { IfErr result (spec.IsNoLoad given.now.number given.now.subject given.now.text) }
 {
-    let list = list(alloc, text)?;
-    loaded_by(alloc, second, saved, list)
+    let list = list(alloc, given.text)?;
+    loaded_by(alloc, given.number, given.subject, list)
 }
 
 /// A client of a saved text, with this list.
@@ -166,203 +149,30 @@ fn ask(
     client: &mut Client,
     browsing: &mut Browsing,
     task: Task,
-    second: i64,
-    subject: &[u8],
-    text: &[u8],
+    given: &Given<'_>,
 ) -> Result<Vec<u8>, Refusal>
-    ensures ok { IfOk result (λ answer. spec.Does task
-        (record { number = second; subject = subject.now; text = text.now }) browsing.old.rules client.old
-        answer.items client.new) }
-    ensures err { IfErr result (λ refused. spec.Refuses task
-        (record { number = second; subject = subject.now; text = text.now }) browsing.old.rules client.old
-        refused client.new) }
+    ensures ok { IfOk result (λ answer.
+        spec.Does task given.now browsing.old.rules client.old answer.items client.new) }
+    ensures err { IfErr result (λ refused.
+        spec.Refuses task given.now browsing.old.rules client.old refused client.new) }
     ensures rules { browsing.new.rules ≡ browsing.old.rules }
 {
+    let second = given.number;
     match task {
-        Task::Receive => receive(alloc, client, browsing, second, subject, text),
-        Task::Header => header(alloc, client, browsing, second, subject),
+        Task::Receive(start) => receive(alloc, client, browsing, start, given),
+        Task::Header(start) => header(alloc, client, browsing, start, given),
         Task::Save => save(alloc, client, second),
         Task::Restart => restart(alloc, client, second),
         Task::SaveAll => save_all(alloc, client),
-        Task::Reload => reload(alloc, client, subject),
+        Task::Reload => reload(alloc, client, given.subject),
         Task::Count => count(alloc, client, second),
         Task::List => list_all(alloc, client, second),
-        Task::Fetch => header_from(alloc, client, browsing, second, subject, text, false),
-        Task::Navigate => header_from(alloc, client, browsing, second, subject, text, true),
         Task::Clear => {
             client.clear();
             Ok(Vec::new(alloc))
         }
-        Task::Import => import(alloc, client, second, text),
+        Task::Import => import(alloc, client, second, given.text),
         Task::Export(reader, sessions) => export(alloc, client, reader, sessions, second),
-    }
-}
-
-// Takes the lines of an answer. There is room for what is said of them before one is taken.
-fn receive(
-    alloc: Global,
-    client: &mut Client,
-    browsing: &mut Browsing,
-    second: i64,
-    subject: &[u8],
-    text: &[u8],
-) -> Result<Vec<u8>, Refusal>
-    ensures ok { IfOk result (λ answer. spec.Receives browsing.old.rules second subject.now text.now client.old
-        answer.items client.new) }
-    ensures err { IfErr result (λ refused. spec.RefusesLines browsing.old.rules second subject.now text.now client.old
-        refused client.new) }
-    ensures rules { browsing.new.rules ≡ browsing.old.rules }
-{
-    let now = date_at(&mut browsing.second, second)?;
-    let url = url_at(alloc, &mut browsing.page, subject)?;
-    let Ok(lines) = lines(alloc, text) else {
-        return Err(Refusal::Memory);
-    };
-    let Ok(room) = Vec::with_capacity(alloc, lines.len()) else {
-        return Err(Refusal::Memory);
-    };
-    match browsing.rules {
-        Some(rules) => match receive_all(client, &rules, url, &lines, now) {
-            Ok(outcomes) => Ok(outcomes_numbered(room, &outcomes)),
-            Err(stopped) => Err(Refusal::Stopped(stopped.0)),
-        },
-        None => match client.receive(url, &lines, now) {
-            Ok(ends) => Ok(numbered(room, &ends)),
-            Err(stopped) => Err(Refusal::Stopped(stopped.0)),
-        },
-    }
-}
-
-// The numbers of what became of the lines.
-fn numbered(room: Vec<u8>, ends: &[LineEnd]) -> Vec<u8>
-    requires empty { room.items ≡ [] }
-    requires fits { length ends.now ≤ vec_capacity room }
-    ensures { result.items ≡ map end_number ends.now }
-{
-    let mut answer = room;
-    for end in ends {
-        answer.push_reserved(end_number(*end));
-    }
-    answer
-}
-
-// The same of lines behind rules.
-fn outcomes_numbered(room: Vec<u8>, outcomes: &[Outcome]) -> Vec<u8>
-    requires empty { room.items ≡ [] }
-    requires fits { length outcomes.now ≤ vec_capacity room }
-    ensures { result.items ≡ map outcome_number outcomes.now }
-{
-    let mut answer = room;
-    for outcome in outcomes {
-        answer.push_reserved(outcome_number(*outcome));
-    }
-    answer
-}
-
-// The header of a request.
-fn header(
-    alloc: Global,
-    client: &Client,
-    browsing: &mut Browsing,
-    second: i64,
-    subject: &[u8],
-) -> Result<Vec<u8>, Refusal>
-    ensures ok { IfOk result (λ answer.
-        spec.Heads browsing.old.rules second subject.now client.now.rows answer.items) }
-    ensures err { IfErr result
-        (IsTold (spec.IsHeaderFault browsing.old.rules second subject.now client.now.rows)) }
-    ensures rules { browsing.new.rules ≡ browsing.old.rules }
-{
-    let now = date_at(&mut browsing.second, second)?;
-    let url = url_at(alloc, &mut browsing.page, subject)?;
-    match sent(client, browsing.rules, url, now) {
-        Ok(header) => one_line(header),
-        Err(_) => Err(Refusal::Memory),
-    }
-}
-
-// The header that a request gets behind the rules, or without any.
-fn sent(
-    client: &Client,
-    rules: Option<Rules>,
-    url: &Url,
-    now: DateTime,
-) -> Result<String, AllocError>
-    ensures { IfOk result (λ header.
-        spec.Sends rules client.now.rows url.now (civil_nanos now) (string_bytes header)) }
-{
-    match rules {
-        Some(rules) => header_for(client, &rules, url, &Initiator::user(), now),
-        None => client.header(url, now),
-    }
-}
-
-// The header of a request that the page of a text starts, as a safe navigation of the top level or otherwise.
-fn header_from(
-    alloc: Global,
-    client: &Client,
-    browsing: &mut Browsing,
-    second: i64,
-    subject: &[u8],
-    text: &[u8],
-    is_let: bool,
-) -> Result<Vec<u8>, Refusal>
-    ensures ok { IfOk result (λ answer.
-        spec.HeadsFrom browsing.old.rules is_let second subject.now text.now client.now answer.items) }
-    ensures err { IfErr result
-        (IsTold (spec.IsStartedFault browsing.old.rules is_let second subject.now text.now client.now)) }
-    ensures rules { browsing.new.rules ≡ browsing.old.rules }
-{
-    let now = date_at(&mut browsing.second, second)?;
-    let page = url(alloc, text)?;
-    let url = url_at(alloc, &mut browsing.page, subject)?;
-    match sent_from(client, browsing.rules, url, &page, is_let, now) {
-        Ok(header) => one_line(header),
-        Err(_) => Err(Refusal::Memory),
-    }
-}
-
-// The header that it gets behind the rules, or without any.
-fn sent_from(
-    client: &Client,
-    rules: Option<Rules>,
-    url: &Url,
-    page: &Url,
-    is_let: bool,
-    now: DateTime,
-) -> Result<String, AllocError>
-    ensures { IfOk result (λ header. spec.SendsFrom rules client.now url.now page.now is_let (civil_nanos now)
-        (string_bytes header)) }
-{
-    let initiator = Initiator {
-        page: Some(page),
-        is_navigation: is_let,
-        is_safe: is_let,
-    };
-    header_for(client, &rules_on(rules), url, &initiator, now)
-}
-
-/// The rules, of which none is on where there are none.
-pub(crate) fn rules_on(rules: Option<Rules>) -> Rules
-    ensures { result ≡ spec.rules_on rules }
-{
-    match rules {
-        Some(rules) => rules,
-        None => ruled(0),
-    }
-}
-
-// The bytes of a header, if none is a control character: one that is would begin a further field of the request.
-fn one_line(header: String) -> Result<Vec<u8>, Refusal>
-    ensures ok { IfOk result (λ answer.
-        (answer.items ≡ string_bytes header) × (control.has_control answer.items ≡ false)) }
-    ensures err { IfErr result (λ refused.
-        (refused ≡ Refusal.Line) × (control.has_control (string_bytes header) ≡ true)) }
-{
-    if has_control(header.as_bytes()) {
-        Err(Refusal::Line)
-    } else {
-        Ok(header.into_bytes())
     }
 }
 

@@ -2,25 +2,19 @@
 ghost use Rattle.std.specs.Prelude.{◌≡◌};
 ghost use Rattle.fonnalich_c.specs.Numbers as spec;
 
+use crate::started::Start;
 use cookies_txt::Reader;
 
 /// Hands out the answer that had no room.
 pub const ANSWER: u32 = 0;
 
-/// Takes the lines of an answer, as [`Task::Receive`].
-pub const RECEIVE: u32 = 3;
-
 /// What a word asks a client for.
 #[derive(Clone, Copy, Debug, PartialEq, Eq)]
 pub enum Task {
-    /// To take the lines of an answer.
-    Receive,
-    /// The header of a request.
-    Header,
-    /// The header of a request that a page starts.
-    Fetch,
-    /// The header of a safe navigation of the top level that a page starts.
-    Navigate,
+    /// To take the lines of an answer to a request that is started so.
+    Receive(Start),
+    /// The header of such a request.
+    Header(Start),
     /// Its saved text.
     Save,
     /// To be saved and loaded again.
@@ -81,8 +75,8 @@ impl Word {
         match number {
             1 => Some(Word::List),
             2 => Some(Word::Load),
-            3 => Some(Word::Ask(Task::Receive)),
-            4 => Some(Word::Ask(Task::Header)),
+            3 => Some(Word::Ask(Task::Receive(Start::User))),
+            4 => Some(Word::Ask(Task::Header(Start::User))),
             5 => Some(Word::Ask(Task::Save)),
             6 => Some(Word::Ask(Task::Restart)),
             7 => Some(Word::Rules),
@@ -91,8 +85,8 @@ impl Word {
             10 => Some(Word::Ask(Task::Count)),
             11 => Some(Word::Ask(Task::List)),
             12 => Some(Word::Ask(Task::Clear)),
-            13 => Some(Word::Ask(Task::Fetch)),
-            14 => Some(Word::Ask(Task::Navigate)),
+            13 => Some(Word::Ask(Task::Header(Start::Page))),
+            14 => Some(Word::Ask(Task::Header(Start::Navigation))),
             15 => Some(Word::Keep),
             16 => Some(Word::By(ByList::Begin)),
             17 => Some(Word::By(ByList::Load)),
@@ -108,5 +102,12 @@ impl Word {
             27 => Some(Word::Ask(Task::Export(Reader::Python, false))),
             _ => None,
         }
+    }
+
+    /// The word that takes the lines of an answer to a request that is started so.
+    pub fn receive(start: Start) -> Word
+        ensures { result ≡ spec.receive_word start }
+    {
+        Word::Ask(Task::Receive(start))
     }
 }

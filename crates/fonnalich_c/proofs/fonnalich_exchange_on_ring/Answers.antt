@@ -1,6 +1,6 @@
 use Rattle.std.proofs.Common.{subst, w64}
 use Rattle.std.proofs.lemmas.Int.{to_z-of_z}
-use Rattle.fonnalich_c.specs.RingExchange.{IsRingExchange, IsNoRingExchange}
+use Rattle.fonnalich_c.specs.Exchange.{IsRingExchange, IsNoRingExchange}
 use Rattle.fonnalich_c.proofs.Exchanges.{answered, refused_by}
 use Rattle.fonnalich_c.proofs.fonnalich_exchange_on_ring.Goals as goal
 

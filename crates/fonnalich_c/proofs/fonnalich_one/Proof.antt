@@ -35,6 +35,7 @@ use Rattle.std.specs.Ptr.{points_to}
 use Rattle.std.specs.contracts.alloc.Global as Global
 use Rattle.std.proofs.alloc.Global.TheLaws as GlobalLaws
 use Rattle.cookie_store.specs.Rows.{key}
+use Rattle.fonnalich_c.specs.Handle.{view}
 use Rattle.fonnalich_c.specs.One.{ActsOnOne}
 use Rattle.fonnalich_c.specs.contracts.held.Held as held
 use Rattle.fonnalich_c.specs.contracts.fonnalich_one as f
@@ -122,8 +123,8 @@ fonnalich_one_spec {M} 𝓤 𝓛 𝓜 𝓡 wired =
     let R = held.the_row in
     let Acted : R.Denot → List ℕ → ℤ → Type 0 = λ w o r. ActsOnOne a.1.1.0 a.1.1.1.0
     (key a.1.1.1.1.0.now a.1.1.1.1.1.0.now a.1.1.1.1.1.1.0.now)
-    (record { client = n.client; list = n.list; rules = n.browsing.rules; kept = n.kept.items })
-    a.1.1.1.1.1.1.1.0.now (record { client = w.client; list = w.list; rules = w.browsing.rules; kept = w.kept.items })
+    (view n)
+    a.1.1.1.1.1.1.1.0.now (view w)
     o r in
     let Held : ℕ → ℕ × ℕ → GName → R.Denot → Fml = λ α p γ x. (MutRef (named 0) (α ∷ []) R).own_val (record {
       ref_ptr = p;

@@ -23,7 +23,7 @@ use denote.Struct.Loose as Loose
 use Rattle.std.specs.Ptr.{points_to}
 use Rattle.std.specs.contracts.alloc.Global as Global
 use Rattle.std.proofs.alloc.Global.TheLaws as GlobalLaws
-use Rattle.fonnalich_c.specs.Handle.{IsFresh}
+use Rattle.fonnalich_c.specs.Handle.{IsFresh, view}
 use Rattle.fonnalich_c.specs.contracts.held.Held as held
 use Rattle.fonnalich_c.proofs.held.Held.TheLaws as HeldLaws
 use Rattle.fonnalich_c.specs.contracts.fonnalich_place as f
@@ -73,12 +73,8 @@ fonnalich_place_spec {M} 𝓤 𝓛 𝓜 𝓡 wired =
     calls_at ! (framed 𝓤 𝓛.H 𝓜 𝓣) G (met 𝓤 𝓛 𝓜 𝓡 (code.calls-fonnalich_c::held::fresh 𝓡.env wired)) z
     (and_then ! (get ! refl) (no_more !)) (λ v.
     use1 𝓛 (later (some (λ (r : R.Denot). (‵ ftrue ⊛ ‵ (R.own_val r (v ∷ []))) ⊛
-    some (λ (ws : Lasts g.ended κs (a.0, tt)). ‵ (lasts g.ended κs (a.0, tt) ws) ⊛ raw (fact 𝓤 (IsFresh (record {
-      client = r.client;
-      list = r.list;
-      rules = r.browsing.rules;
-      kept = r.kept.items;
-    }))))))) (id⊢ 𝓤 _) $
+    some (λ (ws : Lasts g.ended κs (a.0, tt)). ‵ (lasts g.ended κs (a.0, tt) ws) ⊛ raw (fact 𝓤
+    (IsFresh (view r))))))) (id⊢ 𝓤 _) $
     await ! tt $ pick ! (λ r. split ! $ split ! $ move ! (2 ∷ []) $ pick ! (λ ws. split ! $ drop ! $ heard ! _ (λ
     is_fresh.
     -- [the token; the value; the room]
@@ -92,11 +88,11 @@ fonnalich_place_spec {M} 𝓤 𝓛 𝓜 𝓡 wired =
     vunit tt (tt, (tt, tt)) (tt, (tt, tt))) $
     move ! (2 ∷ 0 ∷ []) $ use2 𝓛 (‵ (points_to R (block_ptr b o) r)) (part_in_at 𝓛 R refl full_share r b o _ refl v) $
     nothing ! $
-    fpack ! (IsFresh (record { client = r.client; list = r.list; rules = r.browsing.rules; kept = r.kept.items }))
+    fpack ! (IsFresh (view r))
     (λ _. ftrue) is_fresh $ fjoin ! $
     fpack ! R.Denot
     (λ w. fsep
-    (fex (IsFresh (record { client = w.client; list = w.list; rules = w.browsing.rules; kept = w.kept.items }))
+    (fex (IsFresh (view w))
     (λ _. ftrue)) (points_to R (block_ptr b o) w)) r $
     -- [what lies at the pointer; the token]
     feq_i ! _ (vunit ∷ []) _ refl $ nothing ! $ nothing ! $ fjoin ! $ nothing ! $ fjoin ! $

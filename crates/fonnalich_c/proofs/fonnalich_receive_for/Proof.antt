@@ -34,7 +34,7 @@ use denote.Struct.Loose as Loose
 use Rattle.std.specs.Ptr.{points_to}
 use Rattle.std.specs.contracts.alloc.Global as Global
 use Rattle.std.proofs.alloc.Global.TheLaws as GlobalLaws
-use Rattle.fonnalich_c.specs.Started.{ActsOnReceipt}
+use Rattle.fonnalich_c.specs.Handle.{ActsOnReceipt, view}
 use Rattle.fonnalich_c.specs.contracts.held.Held as held
 use Rattle.fonnalich_c.specs.contracts.fonnalich_receive_for as f
 use Rattle.fonnalich_c.specs.contracts.held.receive_for as g
@@ -120,13 +120,13 @@ fonnalich_receive_for_spec {M} 𝓤 𝓛 𝓜 𝓡 wired =
     let nv = shr_slice_vals a.1.1.1.1.1.1.0 in let ov = mut_slice_vals a.1.1.1.1.1.1.1.0 in
     let R = held.the_row in
     let Acted : R.Denot → List ℕ → ℤ → Type 0 = λ w o r. ActsOnReceipt a.1.1.0 (record {
-      second = a.1.1.1.0;
-      url = a.1.1.1.1.0.now;
+      number = a.1.1.1.0;
+      subject = a.1.1.1.1.0.now;
       page = a.1.1.1.1.1.0.now;
-      lines = a.1.1.1.1.1.1.0.now;
+      text = a.1.1.1.1.1.1.0.now;
     })
-    (record { client = n.client; list = n.list; rules = n.browsing.rules; kept = n.kept.items })
-    a.1.1.1.1.1.1.1.0.now (record { client = w.client; list = w.list; rules = w.browsing.rules; kept = w.kept.items })
+    (view n)
+    a.1.1.1.1.1.1.1.0.now (view w)
     o r in
     let Held : ℕ → ℕ × ℕ → GName → R.Denot → Fml = λ α p γ x. (MutRef (named 0) (α ∷ []) R).own_val (record {
       ref_ptr = p;

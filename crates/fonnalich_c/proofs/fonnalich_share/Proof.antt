@@ -28,7 +28,7 @@ use mir.Val.{vptr}
 use denote.Signed.{sint_Lawful}
 use base.Fraction.{full_share}
 use Rattle.std.specs.Ptr.{points_to}
-use Rattle.fonnalich_c.specs.Handle.{Shares}
+use Rattle.fonnalich_c.specs.Handle.{Shares, view}
 use Rattle.fonnalich_c.specs.contracts.held.Held as held
 use Rattle.fonnalich_c.specs.contracts.fonnalich_share as f
 use Rattle.fonnalich_c.specs.contracts.held.share as g
@@ -50,8 +50,8 @@ fonnalich_share_spec {M} 𝓤 𝓛 𝓜 𝓡 wired =
     (λ κs. (rawptr_vals, (rawptr_vals, tt))) (λ κs. (rawptr_Tells, (rawptr_Tells, tt))) (λ κs qs bounds a n are.
     let R = held.the_row in
     let Shared : R.Denot → ℤ → Type 0 = λ w r. Shares n.1.list
-    (record { client = n.0.client; list = n.0.list; rules = n.0.browsing.rules; kept = n.0.kept.items })
-    (record { client = w.client; list = w.list; rules = w.browsing.rules; kept = w.kept.items }) r in
+    (view n.0)
+    (view w) r in
     let Held : ℕ → ℕ × ℕ → GName → R.Denot → Fml = λ α p γ x. (MutRef (named 0) (α ∷ []) R).own_val (record {
       ref_ptr = p;
       ghost_name = γ;

@@ -1,29 +1,30 @@
 use Rattle.std.proofs.Common.{[], refl, subst, sym}
 use Rattle.std.proofs.lemmas.List.{append-nil}
-use Rattle.cookie_client.specs.declared.command.Command.TheVariants.{Set, Remove}
-use Rattle.fonnalich_c.specs.Commands.{IsCommand}
+use Rattle.fonnalich_c.specs.Commands.{IsCommandBy}
+use Rattle.fonnalich_c.specs.declared.command.RingCommand.TheVariants.{Kept, SetUntil}
 use Rattle.fonnalich_c.proofs.Exchanges.{ok_gives}
 use Rattle.fonnalich_c.proofs.exchange.tell.Goals as goal
 
-pub returns-in-Set-clause-ok : goal.returns-in-Set-clause-ok
-returns-in-Set-clause-ok c =
-    ok_gives c.set.result _ _ (λ left by. (
+pub returns-in-Kept-clause-ok : goal.returns-in-Kept-clause-ok
+returns-in-Kept-clause-ok c =
+    ok_gives c.obey.result _ _ (λ left by. (
+      by.0,
+      by.1,
+      (
+        Kept c.in-Kept.command,
+        subst (IsCommandBy c.args.on_ring c.args.line.now) c.in-Kept.is c.in_ok-command.ensures.ok,
+        by.2,
+      ),
+    )) c.obey.ensures.ok
+
+pub returns-in-SetUntil-clause-ok : goal.returns-in-SetUntil-clause-ok
+returns-in-SetUntil-clause-ok c =
+    ok_gives c.set_until.result _ _ (λ left by. (
       [],
       sym (append-nil c.args.told.now.items),
       (
-        Set c.in-Set.way c.in-Set.cookie,
-        subst (IsCommand c.args.line.now) c.in-Set.is c.in_ok-way.ensures.ok,
+        SetUntil c.in-SetUntil.way c.in-SetUntil.cookie c.in-SetUntil.until,
+        subst (IsCommandBy c.args.on_ring c.args.line.now) c.in-SetUntil.is c.in_ok-command.ensures.ok,
         (refl, by.0, by.1),
       ),
-    )) c.set.ensures.ok
-
-pub returns-in_ok-remove-in-Remove-clause-ok : goal.returns-in_ok-remove-in-Remove-clause-ok
-returns-in_ok-remove-in-Remove-clause-ok c = (
-  [],
-  sym (append-nil c.args.told.now.items),
-  (
-    Remove c.in-Remove.way c.in-Remove.name,
-    subst (IsCommand c.args.line.now) c.in-Remove.is c.in_ok-way.ensures.ok,
-    (refl, c.in_ok-remove-in-Remove.ensures.ok, refl),
-  ),
-)
+    )) c.set_until.ensures.ok

@@ -1,7 +1,0 @@
-use Rattle.std.proofs.Common.{take, map}
-use Rattle.fonnalich_c.specs.RingExchange.{AllTellOnRing}
-use Rattle.fonnalich_c.proofs.ring_exchange.obey_all.Given as goal
-
-abbrev pub invariant-loop-line : goal.invariant-loop-line
-invariant-loop-line l = AllTellOnRing l.fn.session l.now l.nonces (map (λ line. line.now) (take l.line-index l.lines))
-    l.told.items l.session l.left

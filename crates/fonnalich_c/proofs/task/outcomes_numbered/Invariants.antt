@@ -1,7 +1,0 @@
-use Rattle.std.proofs.Common.{◌≡◌, ◌≤◌, length, map, take, vec_len, vec_capacity}
-use Rattle.fonnalich_c.specs.Rules.{outcome_number}
-use Rattle.fonnalich_c.proofs.task.outcomes_numbered.Given as goal
-
-abbrev pub invariant-loop-outcome : goal.invariant-loop-outcome
-invariant-loop-outcome l = (l.answer.items ≡ map outcome_number (take l.outcome-index l.outcomes))
-    × (vec_len l.answer ≡ l.outcome-index) × (length l.outcomes ≤ vec_capacity l.answer)
