@@ -1,10 +1,10 @@
 -- What an import takes of lines and of items.
 use Rattle.std.proofs.Common.{◌≡◌, ◌≤◌, ◌+◌, ◌∙◌, ℕ, ℤ, Bool, true, false, List, [], ◌∷◌, ◌++◌, length, map, Option}
-use Rattle.std.proofs.Common.{Some, Ok, Err, refl, sym, subst, ap, inl, inr, arith, ◌<◌, get_or, suc, take}
-use Rattle.std.specs.Prelude.{◌&&◌, IfSome, not, option_map, if◌then◌else◌}
+use Rattle.std.proofs.Common.{None, Some, refl, sym, subst, ap, inl, inr, arith, ◌<◌, get_or, suc, take}
+use Rattle.std.specs.Prelude.{◌&&◌, not, option_map, if◌then◌else◌}
 use Rattle.std.specs.List.{AllByRecursion, list_any}
 use Rattle.std.proofs.lemmas.Grind.{flat_map-append}
-use Rattle.std.proofs.lemmas.List.{append-nil, length-map, map-append, take_more}
+use Rattle.std.proofs.lemmas.List.{append-nil, length-append, length-map, map-append, take_more}
 use Rattle.std.proofs.lemmas.List.Elements.{filter-append}
 use Rattle.cookie_store.specs.Given.{ArePicked}
 use Rattle.cookie_store.specs.Placing.{loaded, put_all}
@@ -13,13 +13,12 @@ use Rattle.cookie_store.specs.Rows.{is_live, live, put, replaced}
 use Rattle.cookie_store.specs.StoredCookie.{stored_of}
 use Rattle.cookie_store.specs.declared.stored_cookie.Cookie.{Cookie}
 use Rattle.cookie_client.proofs.PutCookies.{picked_whole}
-use Rattle.cookie_jar.specs.Entries.{Entry, entry_text}
-use Rattle.cookie_jar.specs.Importing.{AreRefused, ImportText, Imports, ImportsEntries, IsUntaken, cause_of}
-use Rattle.cookie_jar.specs.Importing.{expired_of, lone, refused_pair, row_in, rows_in}
+use Rattle.cookie_jar.specs.Entries.{entry_row}
+use Rattle.cookie_jar.specs.Importing.{AreRefused, ImportText, Imports, ImportsEntries, IsUntaken, expired_of, lone}
+use Rattle.cookie_jar.specs.Importing.{rows_in}
 use Rattle.cookie_jar.specs.declared.entries.Entry.{Entry as CodeEntry}
 use Rattle.cookie_jar.specs.Keeping.{AreKept, IsKept, IsTaken}
 use Rattle.cookie_jar.specs.declared.form.Form.{Form}
-use Rattle.cookie_jar.specs.declared.importing.Cause.{Cause}
 use Rattle.cookie_jar.specs.declared.importing.Refused.{Refused}
 use Rattle.cookie_jar.proofs.RowLemmas.{picked_all, placed_all, taken_kept}
 
@@ -48,112 +47,101 @@ picked_none Is x h = ([], refl, inr (h, refl))
 -- ---- refused lines
 
 -- one more that is refused
-pub refused_more : (form : Form) (now : ℤ) (entries : List Entry) (refused : List (ℕ × Cause)) (entry : Entry)
-    → AreRefused form now entries refused → IsUntaken form now entry.1
-    → AreRefused form now (entries ++ entry ∷ []) (refused ++ (entry.0, cause_of form entry.1) ∷ [])
+refused_more : (form : Form) (now : ℤ) (entries : List (Option Row)) (refused : ℕ) (entry : Option Row)
+    → AreRefused form now entries refused → IsUntaken form now entry
+    → AreRefused form now (entries ++ entry ∷ []) (refused + 1)
 refused_more form now entries refused entry (left, picked, is) untaken = (
   left ++ entry ∷ [],
-  picked_append (λ e. IsUntaken form now e.1) entries (entry ∷ []) left (entry ∷ []) picked
-      (picked_one (λ e. IsUntaken form now e.1) entry untaken),
-  ap (λ l. l ++ (entry.0, cause_of form entry.1) ∷ []) is
-      ∙ sym (map-append (λ e. (e.0, cause_of form e.1)) left (entry ∷ [])),
+  picked_append (IsUntaken form now) entries (entry ∷ []) left (entry ∷ []) picked
+      (picked_one (IsUntaken form now) entry untaken),
+  ap (λ n. n + 1) is ∙ sym (length-append left (entry ∷ [])),
 )
 
 -- one more that isn't
-pub refused_same : (form : Form) (now : ℤ) (entries : List Entry) (refused : List (ℕ × Cause)) (entry : Entry)
-    → AreRefused form now entries refused → ¬ (IsUntaken form now entry.1)
+refused_same : (form : Form) (now : ℤ) (entries : List (Option Row)) (refused : ℕ) (entry : Option Row)
+    → AreRefused form now entries refused → ¬ (IsUntaken form now entry)
     → AreRefused form now (entries ++ entry ∷ []) refused
 refused_same form now entries refused entry (left, picked, is) taken = (
   left,
-  subst (ArePicked (λ e. IsUntaken form now e.1) (entries ++ entry ∷ [])) (append-nil left)
-      (picked_append (λ e. IsUntaken form now e.1) entries (entry ∷ []) left [] picked
-      (picked_none (λ e. IsUntaken form now e.1) entry taken)),
+  subst (ArePicked (IsUntaken form now) (entries ++ entry ∷ [])) (append-nil left)
+      (picked_append (IsUntaken form now) entries (entry ∷ []) left [] picked
+      (picked_none (IsUntaken form now) entry taken)),
   is,
 )
 
 entries_next : (xs : List CodeEntry) (i : ℕ) (entry : CodeEntry) → i < length xs → entry ≡ get_or xs i entry
-    → map entry_text (take (i + 1) xs) ≡ map entry_text (take i xs) ++ entry_text entry ∷ []
+    → map entry_row (take (i + 1) xs) ≡ map entry_row (take i xs) ++ entry_row entry ∷ []
 entries_next xs i entry within is =
-    ap (map entry_text) (take_more xs i entry within ∙ ap (λ x. take i xs ++ x ∷ []) (sym is))
-    ∙ map-append entry_text (take i xs) (entry ∷ [])
+    ap (map entry_row) (take_more xs i entry within ∙ ap (λ x. take i xs ++ x ∷ []) (sym is))
+    ∙ map-append entry_row (take i xs) (entry ∷ [])
 
 -- one line more that was looked at, of those that are refused
 pub next_refused : (form : Form) (now : ℤ) (xs : List CodeEntry) (i : ℕ) (entry : CodeEntry)
-    (old new : List Refused) (found : Option Cause) (cause : Cause) → i < length xs → entry ≡ get_or xs i entry
-    → AreRefused form now (map entry_text (take i xs)) (map refused_pair old)
-    → IfSome found (λ cause. IsUntaken form now (entry_text entry).1 × (cause ≡ cause_of form (entry_text entry).1))
-    → found ≡ Some cause → new ≡ old ++ record { number = entry.number; cause = cause } ∷ []
-    → AreRefused form now (map entry_text (take (i + 1) xs)) (map refused_pair new)
-next_refused form now xs i entry old new found cause within is far why some pushed =
-    let here : IsUntaken form now (entry_text entry).1 × (cause ≡ cause_of form (entry_text entry).1) =
-    subst (λ o. IfSome o (λ c. IsUntaken form now (entry_text entry).1 × (c ≡ cause_of form (entry_text entry).1))) some
-    why in
-    let line : Refused = record { number = entry.number; cause = cause } in
-    let told : map refused_pair new ≡ map refused_pair old ++ (entry.number, cause_of form (entry_text entry).1) ∷ [] =
-    ap (map refused_pair) pushed ∙ (map-append refused_pair old (line ∷ [])
-    ∙ ap (λ c. map refused_pair old ++ (entry.number, c) ∷ []) here.1) in
-    subst (λ es. AreRefused form now es (map refused_pair new)) (sym (entries_next xs i entry within is))
-    (subst (AreRefused form now (map entry_text (take i xs) ++ entry_text entry ∷ [])) (sym told)
-    (refused_more form now (map entry_text (take i xs)) (map refused_pair old) (entry_text entry) far here.0))
+    (old new : List Refused) (line : Refused) → i < length xs → entry ≡ get_or xs i entry
+    → AreRefused form now (map entry_row (take i xs)) (length old) → IsUntaken form now (entry_row entry)
+    → new ≡ old ++ line ∷ [] → AreRefused form now (map entry_row (take (i + 1) xs)) (length new)
+next_refused form now xs i entry old new line within is far untaken pushed =
+    let told : length new ≡ length old + 1 = ap length pushed ∙ length-append old (line ∷ []) in
+    subst (λ es. AreRefused form now es (length new)) (sym (entries_next xs i entry within is))
+    (subst (AreRefused form now (map entry_row (take i xs) ++ entry_row entry ∷ [])) (sym told)
+    (refused_more form now (map entry_row (take i xs)) (length old) (entry_row entry) far untaken))
 
-pub next_taken : (form : Form) (now : ℤ) (xs : List CodeEntry) (i : ℕ) (entry : CodeEntry)
-    (refused : List Refused) → i < length xs → entry ≡ get_or xs i entry
-    → AreRefused form now (map entry_text (take i xs)) (map refused_pair refused)
-    → ¬ (IsUntaken form now (entry_text entry).1)
-    → AreRefused form now (map entry_text (take (i + 1) xs)) (map refused_pair refused)
+pub next_taken : (form : Form) (now : ℤ) (xs : List CodeEntry) (i : ℕ) (entry : CodeEntry) (refused : ℕ)
+    → i < length xs → entry ≡ get_or xs i entry → AreRefused form now (map entry_row (take i xs)) refused
+    → ¬ (IsUntaken form now (entry_row entry)) → AreRefused form now (map entry_row (take (i + 1) xs)) refused
 next_taken form now xs i entry refused within is far taken =
-    subst (λ es. AreRefused form now es (map refused_pair refused)) (sym (entries_next xs i entry within is))
-    (refused_same form now (map entry_text (take i xs)) (map refused_pair refused) (entry_text entry) far taken)
+    subst (λ es. AreRefused form now es refused) (sym (entries_next xs i entry within is))
+    (refused_same form now (map entry_row (take i xs)) refused (entry_row entry) far taken)
 
 -- ---- kept rows
 
 -- rows that a line more gives
-rows_more : (now : ℤ) (entries : List Entry) (entry : Entry)
-    → live now (rows_in (entries ++ entry ∷ [])) ≡ live now (rows_in entries) ++ live now (row_in entry.1)
+rows_more : (now : ℤ) (entries : List (Option Row)) (entry : Option Row)
+    → live now (rows_in (entries ++ entry ∷ [])) ≡ live now (rows_in entries) ++ live now (lone entry)
 rows_more now entries entry =
-    ap (live now) (flat_map-append (λ e. row_in e.1) entries (entry ∷ [])
-    ∙ ap (λ l. rows_in entries ++ l) (append-nil (row_in entry.1)))
-    ∙ filter-append (is_live now) (rows_in entries) (row_in entry.1)
+    ap (live now) (flat_map-append lone entries (entry ∷ [])
+    ∙ ap (λ l. rows_in entries ++ l) (append-nil (lone entry)))
+    ∙ filter-append (is_live now) (rows_in entries) (lone entry)
 
-pub kept_more : (form : Form) (now : ℤ) (entries : List Entry) (kept more : List Row) (entry : Entry)
+pub kept_more : (form : Form) (now : ℤ) (entries : List (Option Row)) (kept more : List Row) (entry : Option Row)
     → ArePicked (IsTaken form) (live now (rows_in entries)) kept
-    → ArePicked (IsTaken form) (live now (row_in entry.1)) more
+    → ArePicked (IsTaken form) (live now (lone entry)) more
     → ArePicked (IsTaken form) (live now (rows_in (entries ++ entry ∷ []))) (kept ++ more)
 kept_more form now entries kept more entry far one =
     subst (λ rows. ArePicked (IsTaken form) rows (kept ++ more)) (sym (rows_more now entries entry))
-    (picked_append (IsTaken form) (live now (rows_in entries)) (live now (row_in entry.1)) kept more far one)
+    (picked_append (IsTaken form) (live now (rows_in entries)) (live now (lone entry)) kept more far one)
 
 -- one line more that was looked at, of those that are kept
 pub kept_next : (form : Form) (now : ℤ) (xs : List CodeEntry) (entry : CodeEntry) (old new : List Cookie)
-    (found : Option Cookie) → ArePicked (IsTaken form) (live now (rows_in (map entry_text xs))) (map stored_of old)
-    → ArePicked (IsTaken form) (live now (row_in (entry_text entry).1)) (lone (option_map stored_of found))
+    (found : Option Cookie) → ArePicked (IsTaken form) (live now (rows_in (map entry_row xs))) (map stored_of old)
+    → ArePicked (IsTaken form) (live now (lone (entry_row entry))) (lone (option_map stored_of found))
     → map stored_of new ≡ map stored_of old ++ lone (option_map stored_of found)
-    → ArePicked (IsTaken form) (live now (rows_in (map entry_text (xs ++ entry ∷ [])))) (map stored_of new)
+    → ArePicked (IsTaken form) (live now (rows_in (map entry_row (xs ++ entry ∷ [])))) (map stored_of new)
 kept_next form now xs entry old new found far one pushed =
     subst (λ es. ArePicked (IsTaken form) (live now (rows_in es)) (map stored_of new))
-    (sym (map-append entry_text xs (entry ∷ [])))
-    (subst (ArePicked (IsTaken form) (live now (rows_in (map entry_text xs ++ entry_text entry ∷ [])))) (sym pushed)
-    (kept_more form now (map entry_text xs) (map stored_of old) (lone (option_map stored_of found)) (entry_text entry)
+    (sym (map-append entry_row xs (entry ∷ [])))
+    (subst (ArePicked (IsTaken form) (live now (rows_in (map entry_row xs ++ entry_row entry ∷ [])))) (sym pushed)
+    (kept_more form now (map entry_row xs) (map stored_of old) (lone (option_map stored_of found)) (entry_row entry)
     far one))
 
 -- ---- how many
 
 -- a line is refused, or its row is expired, or kept
-counts : (form : Form) (now : ℤ) (entries left : List Entry) (kept : List Row)
-    → ArePicked (λ e. IsUntaken form now e.1) entries left → ArePicked (IsTaken form) (live now (rows_in entries)) kept
+counts : (form : Form) (now : ℤ) (entries left : List (Option Row)) (kept : List Row)
+    → ArePicked (IsUntaken form now) entries left → ArePicked (IsTaken form) (live now (rows_in entries)) kept
     → length left + length kept + length (expired_of now (rows_in entries)) ≡ length entries
 counts form now [] left kept untaken picked = omega (arith, ap length untaken, ap length picked)
-counts form now ((n, Err fault) ∷ entries) left kept (later, rest, inl h) picked =
+counts form now (None ∷ entries) left kept (later, rest, inl h) picked =
     omega (arith, counts form now entries later kept rest picked, ap length h.1)
-counts form now ((n, Err fault) ∷ entries) left kept (later, rest, inr h) picked = absurd (h.0 tt)
-counts form now ((n, Ok row) ∷ entries) left kept untaken picked =
+counts form now (None ∷ entries) left kept (later, rest, inr h) picked = absurd (h.0 tt)
+counts form now (Some row ∷ entries) left kept untaken picked =
     by (is_live now row) refl (counts form now entries) untaken picked
   where
     by : (b : Bool) → is_live now row ≡ b
-        → ((later : List Entry) (more : List Row) → ArePicked (λ e. IsUntaken form now e.1) entries later
+        → ((later : List (Option Row)) (more : List Row) → ArePicked (IsUntaken form now) entries later
         → ArePicked (IsTaken form) (live now (rows_in entries)) more
         → length later + length more + length (expired_of now (rows_in entries)) ≡ length entries)
-        → ArePicked (λ e. IsUntaken form now e.1) ((n, Ok row) ∷ entries) left
+        → ArePicked (IsUntaken form now) (Some row ∷ entries) left
         → ArePicked (IsTaken form) (if b then row ∷ live now (rows_in entries) else live now (rows_in entries)) kept
         → length left + length kept
         + length (if not b then row ∷ expired_of now (rows_in entries) else expired_of now (rows_in entries))
@@ -169,28 +157,17 @@ counts form now ((n, Ok row) ∷ entries) left kept untaken picked =
     by false dead deeper (later, rest, inr h) behind =
         omega (arith, deeper later kept rest behind, ap length h.1)
 
-pub all_counted : (form : Form) (now : ℤ) (entries : List Entry) (refused : List (ℕ × Cause)) (kept : List Row)
-    → AreRefused form now entries refused → ArePicked (IsTaken form) (live now (rows_in entries)) kept
-    → length refused + length kept + length (expired_of now (rows_in entries)) ≡ length entries
-all_counted form now entries refused kept (left, picked, is) are_kept =
+pub entries_counted : (form : Form) (now : ℤ) (xs : List CodeEntry) (refused : ℕ) (kept : List Cookie)
+    → AreRefused form now (map entry_row xs) refused
+    → ArePicked (IsTaken form) (live now (rows_in (map entry_row xs))) (map stored_of kept)
+    → refused + length kept + length (expired_of now (rows_in (map entry_row xs))) ≡ length xs
+entries_counted form now xs refused kept (left, picked, is) are_kept =
     omega (
       arith,
-      counts form now entries left kept picked are_kept,
-      ap length is,
-      length-map {B = ℕ × Cause} left (λ e. (e.0, cause_of form e.1)),
-    )
-
-pub entries_counted : (form : Form) (now : ℤ) (xs : List CodeEntry) (refused : List Refused) (kept : List Cookie)
-    → AreRefused form now (map entry_text xs) (map refused_pair refused)
-    → ArePicked (IsTaken form) (live now (rows_in (map entry_text xs))) (map stored_of kept)
-    → length refused + length kept + length (expired_of now (rows_in (map entry_text xs))) ≡ length xs
-entries_counted form now xs refused kept are_refused are_kept =
-    omega (
-      arith,
-      all_counted form now (map entry_text xs) (map refused_pair refused) (map stored_of kept) are_refused are_kept,
-      length-map refused refused_pair,
+      counts form now (map entry_row xs) left (map stored_of kept) picked are_kept,
+      is,
       length-map kept stored_of,
-      length-map xs entry_text,
+      length-map xs entry_row,
     )
 
 -- ---- placed by their keys
@@ -245,8 +222,8 @@ taken_all form now rows kept others taken are_kept same picked =
     picked ∙ same
 
 -- what an import leaves
-pub entries_kept : (form : Form) (now : ℤ) (entries : List Entry) (old : List Row) (told : ImportText) (new : List Row)
-    → AreKept old → ImportsEntries form now entries old told new → AreKept new
+pub entries_kept : (form : Form) (now : ℤ) (entries : List (Option Row)) (old : List Row) (told : ImportText)
+    (new : List Row) → AreKept old → ImportsEntries form now entries old told new → AreKept new
 entries_kept form now entries old told new kept done =
     subst AreKept (sym done.new_rows) (placed_all IsKept now old (loaded false now done.kept) kept
     (loaded_all IsKept now done.kept (taken_kept form done.kept

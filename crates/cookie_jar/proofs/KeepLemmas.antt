@@ -1,5 +1,5 @@
 -- Rows that a jar keeps.
-use Rattle.std.proofs.Common.{◌≡◌, ◌∷◌, [], ◌++◌, ◌∙◌, ℕ, Bool, true, false, List, map, sym, refl}
+use Rattle.std.proofs.Common.{◌≡◌, ◌∷◌, [], ◌++◌, ◌∙◌, ℕ, Bool, false, List, map, sym, refl}
 use Rattle.std.specs.Prelude.{◌||◌, ◌↔◌, IsTrue, Option, Some, None}
 use Rattle.std.specs.List.{AllByRecursion}
 use Rattle.std.proofs.lemmas.Bool.{both_ways, or_from, or_parts}
@@ -11,12 +11,6 @@ use Rattle.cookie_client.specs.Keeping.{HaveReadPairs}
 use Rattle.cookies_txt.specs.declared.error.RowFault.{RowFault}
 use Rattle.cookie_jar.specs.Keeping.{AreKept, IsClean, IsKept, IsTaken, fault_in, has_control, is_control}
 use Rattle.cookie_jar.specs.declared.form.Form.{Form}
-
--- a test that holds where another does, and only there, is that one
-pub same_test : (a b : Bool) → (a ≡ true → b ≡ true) → (b ≡ true → a ≡ true) → a ≡ b
-same_test true b up down = sym (up refl)
-same_test false true up down = down refl
-same_test false false up down = refl
 
 -- ---- what holds of each row that is kept
 

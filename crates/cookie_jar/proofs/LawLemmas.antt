@@ -210,22 +210,24 @@ no_fault text all number fault says first =
 
 pub saved_texts_are_read : RonIsRead → JsonIsRead → WrittenRowsAreSaid → SavedTextsAreRead
 saved_texts_are_read ron json txt Ron rows saving text e kept bytes fits utf8 is (inl memory) = memory
-saved_texts_are_read ron json txt Ron rows saving text e kept bytes fits utf8 is (inr (cause, other, refusal, told)) =
+saved_texts_are_read ron json txt Ron rows saving text e kept bytes fits utf8 is
+    (inr (told, (cause, other, refusal))) =
     let saved = live saving rows in
     let own = filter_all IsKept (is_live saving) rows kept in
     absurd (other (ron saved text cause bytes (all_print saved (pairs_of saved own)) utf8 is refusal))
 saved_texts_are_read ron json txt Json rows saving text e kept bytes fits utf8 is (inl memory) = memory
-saved_texts_are_read ron json txt Json rows saving text e kept bytes fits utf8 is (inr (cause, other, refusal, told)) =
+saved_texts_are_read ron json txt Json rows saving text e kept bytes fits utf8 is
+    (inr (told, (cause, other, refusal))) =
     let saved = live saving rows in
     let own = filter_all IsKept (is_live saving) rows kept in
     absurd (other (json saved text cause (all_print saved (pairs_of saved own)) utf8 is refusal))
 saved_texts_are_read ron json txt Txt rows saving text e kept bytes fits utf8 is (inl memory) = memory
 saved_texts_are_read ron json txt Txt rows saving text e kept bytes fits utf8 is
-    (inr (cause, other, inl (none, bad), told)) = absurd (bad utf8)
+    (inr (told, (cause, other, inl (none, bad)))) = absurd (bad utf8)
 saved_texts_are_read ron json txt Txt rows saving text e kept bytes fits utf8 is
-    (inr (cause, other, inr (good, inl memory), told)) = absurd (other memory)
+    (inr (told, (cause, other, inr (good, inl memory)))) = absurd (other memory)
 saved_texts_are_read ron json txt Txt rows saving text e kept bytes fits utf8 is
-    (inr (cause, other, inr (good, inr (number, fault, first, same)), told)) =
+    (inr (told, (cause, other, inr (good, inr (number, fault, first, same))))) =
     let saved = live saving rows in
     let written : text ≡ cookies_txt (map line_of_row (held saved)) =
     is ∙ ap (λ rs. cookies_txt (map line_of_row rs)) (sym fits) in

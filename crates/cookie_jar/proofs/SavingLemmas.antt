@@ -29,15 +29,15 @@ year_only rows before after e is (inr (same, inr memory)) = absurd (subst IsYear
 pub not_read : (Refuses : List ℕ → Error → Type 0) (text : List ℕ) (cause : Error) (told : ReadError)
     (before after reads : ℕ)
     → (((told ≡ read.OutOfMemory) × ((cause ≡ Io) ⊎ (cause ≡ OutOfMemory)))
-    ⊎ ((told ≡ read.Saved cause) × (¬ (cause ≡ Io)) × (¬ (cause ≡ OutOfMemory))))
+    ⊎ ((¬ (told ≡ read.OutOfMemory)) × (¬ (cause ≡ Io)) × (¬ (cause ≡ OutOfMemory))))
     → (IsReadFault before after reads cause ⊎ (cause ≡ OutOfMemory) ⊎ OfText (Some text) (λ t. Refuses t cause))
     → (told ≡ read.OutOfMemory)
-    ⊎ ((why : Error) × (¬ (why ≡ OutOfMemory)) × Refuses text why × (told ≡ read.Saved why))
+    ⊎ ((¬ (told ≡ read.OutOfMemory)) × ((why : Error) × (¬ (why ≡ OutOfMemory)) × Refuses text why))
 not_read Refuses text cause told before after reads (inl memory) why = inl memory.0
 not_read Refuses text cause told before after reads (inr other) (inl failed) = absurd (other.1 failed.0)
 not_read Refuses text cause told before after reads (inr other) (inr (inl memory)) = absurd (other.2 memory)
 not_read Refuses text cause told before after reads (inr other) (inr (inr of)) =
-    inr (cause, other.2, subst (λ t. Refuses t cause) of.1 of.2, other.0)
+    inr (other.0, (cause, other.2, subst (λ t. Refuses t cause) of.1 of.2))
 
 -- rows that lines can hold are all held
 pub held_all : (rows : List Row) → AreHeld rows → held rows ≡ rows

@@ -1,14 +1,12 @@
 -- Texts on which no terminal acts, and their parts.
-use Rattle.std.proofs.Common.{◌≡◌, ℕ, ◌<◌, ◌^◌, ◌+◌, ◌%◌, ◌&&◌, ◌||◌, ◌==◌, not, append-nil, Bool, true, false, List}
+use Rattle.std.proofs.Common.{◌≡◌, ℕ, ◌<◌, ◌&&◌, ◌||◌, ◌==◌, not, append-nil, Bool, true, false, List}
 use Rattle.std.proofs.Common.{[], ◌∷◌, ◌++◌, Result, Ok, Err, OnOk, OnErr, refl, ap, subst, sym, ◌∙◌, arith}
 use Rattle.std.proofs.Common.{if◌then◌else◌}
-use Rattle.std.specs.Fmt.{decimal}
 use Rattle.std.specs.List.{All, list_all}
 use Rattle.std.specs.Str.{IsAscii, IsUtf8, chars}
 use Rattle.std.proofs.lemmas.Bool.Decides.{nat_tests}
-use Rattle.std.proofs.lemmas.Fmt.{decimal_by_steps}
-use Rattle.std.proofs.lemmas.List.Elements.{All-append, All-cons, All-nil, All-weaker}
-use Rattle.std.specs.Char.{IsScalar, digit_char}
+use Rattle.std.proofs.lemmas.List.Elements.{All-weaker}
+use Rattle.std.specs.Char.{IsScalar}
 use Rattle.std.specs.Prelude.{encode_utf8}
 use Rattle.std.proofs.lemmas.List.Folds.{list_all-append}
 use Rattle.std.proofs.lemmas.List.Sums.{AllPass-from_list_all, list_all-from_AllPass}
@@ -54,32 +52,6 @@ pub shows_result : {A E : Type 0} (r : Result A E) (old more new : List ℕ) →
 shows_result (Ok x) old more new ok err utf8 before behind =
     subst ShowsNoControl (sym ok) (shows_more old more utf8 before behind)
 shows_result (Err e) old more new ok err utf8 before behind = subst ShowsNoControl (sym err) before
-
--- digits
-lone : (b : ℕ) → Plain b → All Plain (b ∷ [])
-lone b h = All-cons Plain b [] h (All-nil Plain)
-
-one_digit : (n : ℕ) → n < 10 → Plain (48 + n)
-one_digit n h = grind (arith, nat_tests)
-
-digits_plain : (n : ℕ) → n < 2 ^ 64 → All Plain (decimal n)
-digits_plain n small =
-    decimal_by_steps (λ n ds. All Plain ds)
-    (λ n h. lone (48 + n) (one_digit n h))
-    (λ n ds h before. All-append Plain ds _ before (lone (48 + n % 10) (one_digit (n % 10) (omega arith))))
-    n small
-
-pub shows_decimal : (n : ℕ) → n < 2 ^ 64 → ShowsNoControl (decimal n)
-shows_decimal n small = shows_plain (decimal n) (digits_plain n small)
-
-hex_plain : (n : ℕ) → n < 16 → Plain (digit_char n)
-hex_plain n h = grind (arith, nat_tests)
-
-pub hex_small : (n : ℕ) → n < 16 → digit_char n < 128
-hex_small n h = plain_below (digit_char n) (hex_plain n h)
-
-pub shows_hex : (n : ℕ) → n < 16 → ShowsNoControl (digit_char n ∷ [])
-shows_hex n h = shows_plain _ (lone (digit_char n) (hex_plain n h))
 
 -- a character on which no terminal acts
 or_true : (x y : Bool) → (x || (y || true)) ≡ true

@@ -1,10 +1,10 @@
 -- Rows that are asked for by a domain, by a name, or as they are printed (this repository's own).
 use Rattle.std.specs.Prelude.{◌≡◌, ◌&&◌, ◌||◌, ◌++◌, ℕ, ℤ, Bool, List, [], ◌∷◌, Option, Some, None, IsSomeAnd}
-use Rattle.std.specs.Prelude.{option_map}
+use Rattle.std.specs.Prelude.{option_and_then, option_map}
 use Rattle.std.specs.List.{find}
 use Rattle.std.specs.Option.{option_or}
 use Rattle.std.specs.Str.{bytes_eq}
-use Rattle.store_parts.specs.DomainMatch.{Domain, DomainMatches, dot, text_of}
+use Rattle.store_parts.specs.DomainMatch.{DomainMatches, dot, text_of}
 use Rattle.store_parts.specs.DomainText.{read_domain}
 use Rattle.cookie_store.specs.Given.{ArePicked}
 use Rattle.cookie_store.specs.Longest.{AreGivenLongest}
@@ -17,21 +17,14 @@ use Rattle.cookie_jar.specs.declared.asking.Which.TheVariants.{All, For, Under}
 
 -- ---- those of a domain and of those below it
 
-abbrev pub text_in : Option Domain → Option (List ℕ)
-text_in None = None
-text_in (Some domain) = text_of domain
-
 -- the text of the domain that a text gives, which is in IDNA form; none where it has no such form, or nothing is left
 abbrev pub domain_form : List ℕ → Option (List ℕ)
-domain_form text = text_in (read_domain text)
+domain_form text = option_and_then text_of (read_domain text)
 
--- the row's domain domain-matches that of the text (RFC 6265, 5.1.3)
-abbrev pub IsUnder : List ℕ → Row → Type 0
-IsUnder domain row = IsSomeAnd (domain_form domain) (DomainMatches (domain_text row))
-
--- those of a list that are so, in their order
+-- those of a list whose domain domain-matches that of the text (RFC 6265, 5.1.3), in their order
 abbrev pub AreUnder : List ℕ → List Row → List Row → Type 0
-AreUnder domain rows under = ArePicked (IsUnder domain) rows under
+AreUnder domain rows under =
+    ArePicked (λ row. IsSomeAnd (domain_form domain) (DomainMatches (domain_text row))) rows under
 
 -- ---- those that are listed
 

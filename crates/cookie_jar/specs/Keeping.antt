@@ -8,7 +8,7 @@ use Rattle.cookies_txt.specs.Layout.{tab}
 use Rattle.cookies_txt.specs.Writing.{row_fault}
 use Rattle.cookies_txt.specs.declared.error.RowFault.{RowFault}
 use Rattle.cookie_jar.specs.declared.form.Form.{Form}
-use Rattle.cookie_jar.specs.declared.form.Form.TheVariants.{Ron, Json, Txt}
+use Rattle.cookie_jar.specs.declared.form.Form.TheVariants.{Txt}
 
 -- ---- control characters
 
@@ -41,16 +41,12 @@ pub record IsKept (row : Row) : Type 0 where
 abbrev pub AreKept : List Row → Type 0
 AreKept rows = AllByRecursion IsKept rows
 
-abbrev pub IsRefused : Row → Type 0
-IsRefused row = ¬ (IsKept row)
-
 -- ---- rows that an import takes
 
 -- why a text of the form can't hold the row, where that is so: RON and JSON hold every row
 abbrev pub fault_in : Form → Row → Option RowFault
-fault_in Ron row = None
-fault_in Json row = None
 fault_in Txt row = row_fault row
+fault_in other row = None
 
 -- a jar keeps it, and the form in which it is saved can hold it
 pub record IsTaken (form : Form) (row : Row) : Type 0 where

@@ -22,15 +22,14 @@ use Rattle.cookie_jar.specs.Taking.{TakesLine}
 use Rattle.cookie_jar.specs.declared.error.ReadError.{ReadError}
 use Rattle.cookie_jar.specs.declared.error.ReadError.TheVariants.{OutOfMemory}
 use Rattle.cookie_jar.specs.declared.form.Form.{Form}
-use Rattle.cookie_jar.specs.declared.form.Form.TheVariants.{Ron, Json, Txt}
+use Rattle.cookie_jar.specs.declared.form.Form.TheVariants.{Txt}
 use Rattle.cookie_jar.specs.declared.taking.End.TheVariants.{Line}
 
 -- the second row is the first as the form keeps it: in RON and JSON its domain, path, name and value, and its death
 -- without a fraction of a second; in `cookies.txt` what a line says of it
 abbrev pub IsSameIn : Form → Row → Row → Type 0
-IsSameIn Ron row other = IsRowKept row other
-IsSameIn Json row other = IsRowKept row other
 IsSameIn Txt row other = IsThroughCookiesTxt row other
+IsSameIn list row other = IsRowKept row other
 
 -- Rows that a jar keeps, saved at a moment in a form that holds them and loaded of that text at another: each as the
 -- form keeps it, in their order, without those that are dead then, and no other; and a jar keeps them all.

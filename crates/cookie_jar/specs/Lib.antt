@@ -1,7 +1,5 @@
 pub mod Asking
 pub mod Entries
-pub mod Explaining
-pub mod Forms
 pub mod Importing
 pub mod Keeping
 pub mod Laws

@@ -10,7 +10,7 @@ use Rattle.cookies_txt.specs.Reading.{GivesRows, IsBytesRefusal}
 use Rattle.cookies_txt.specs.declared.error.ReadError.{ReadError as LinesError}
 use Rattle.cookies_txt.specs.declared.error.ReadError.TheVariants as lines
 use Rattle.cookie_jar.specs.declared.error.ReadError.{ReadError}
-use Rattle.cookie_jar.specs.declared.error.ReadError.TheVariants.{Saved, Lines, OutOfMemory}
+use Rattle.cookie_jar.specs.declared.error.ReadError.TheVariants.{OutOfMemory}
 use Rattle.cookie_jar.specs.declared.form.Form.{Form}
 use Rattle.cookie_jar.specs.declared.form.Form.TheVariants.{Ron, Json, Txt}
 
@@ -20,11 +20,12 @@ Reads Ron now text store = Loads ShowsOnly false now text store
 Reads Json now text store = Loads IsJsonOf false now text store
 Reads Txt now text store = (rows : List Row) × GivesRows text rows × (store ≡ loaded_store false now rows)
 
--- why a text of this form isn't read; want of memory is told by its own name alone
+-- the text isn't one of the form
+abbrev pub IsNoText : Form → List ℕ → Type 0
+IsNoText Ron text = (cause : Error) × (cause ≢ saved.OutOfMemory) × IsRonRefusal text cause
+IsNoText Json text = (cause : Error) × (cause ≢ saved.OutOfMemory) × IsJsonRefusal text cause
+IsNoText Txt text = (cause : LinesError) × (cause ≢ lines.OutOfMemory) × IsBytesRefusal text cause
+
+-- so it isn't read, or for want of memory
 abbrev pub IsUnread : Form → List ℕ → ReadError → Type 0
-IsUnread Ron text e = (e ≡ OutOfMemory)
-    ⊎ ((cause : Error) × (cause ≢ saved.OutOfMemory) × IsRonRefusal text cause × (e ≡ Saved cause))
-IsUnread Json text e = (e ≡ OutOfMemory)
-    ⊎ ((cause : Error) × (cause ≢ saved.OutOfMemory) × IsJsonRefusal text cause × (e ≡ Saved cause))
-IsUnread Txt text e = (e ≡ OutOfMemory)
-    ⊎ ((cause : LinesError) × (cause ≢ lines.OutOfMemory) × IsBytesRefusal text cause × (e ≡ Lines cause))
+IsUnread form text e = (e ≡ OutOfMemory) ⊎ ((e ≢ OutOfMemory) × IsNoText form text)

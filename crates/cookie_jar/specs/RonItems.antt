@@ -3,6 +3,7 @@
 use Rattle.std.specs.Prelude.{◌==◌, ◌&&◌, ◌||◌, ◌+◌, ◌-◌, ◌++◌, ℕ, Bool, true, false, not, List, [], ◌∷◌, Option}
 use Rattle.std.specs.Prelude.{Some, None, drop, if◌then◌else◌, option_map}
 use Rattle.std.specs.List.{list_all, prefix_len}
+use Rattle.saved_text.specs.Letters.{is_space}
 use Rattle.cookie_jar.specs.declared.ron_items.At.{At}
 
 -- ---- where a scan stands
@@ -41,10 +42,6 @@ behind at b =
 
 -- ---- white space
 
--- a blank, a tab and the ends of lines
-abbrev pub is_space : ℕ → Bool
-is_space b = b == 32 || (b == 9 || (b == 10 || b == 13))
-
 abbrev pub is_blank : List ℕ → Bool
 is_blank text = list_all is_space text
 
@@ -54,24 +51,18 @@ unspaced text = drop (prefix_len is_space text) text
 
 -- ---- the items
 
--- the last one, which is none where it is white space alone
-abbrev pub last_item : List ℕ → List (List ℕ)
-last_item item = if is_blank item then [] else item ∷ []
-
--- items, and the last one before the bracket that closes the list, behind which stands nothing but white space
+-- Items, and the last one before the bracket that closes the list, which is none where it is white space alone; none
+-- where more than white space stands behind that.
 abbrev pub with_last : List (List ℕ) → List ℕ → List ℕ → Option (List (List ℕ))
-with_last items last behind = if is_blank behind then Some (items ++ last_item last) else None
-
--- outside of strings `/` begins a comment
-abbrev pub is_comment : At → ℕ → Bool
-is_comment at b = not at.is_string && b == 47
+with_last items last behind =
+    if is_blank behind then Some (items ++ (if is_blank last then [] else last ∷ [])) else None
 
 -- The items from a place on, of which the first begins with this front. There are none where a comment stands there,
--- where no bracket closes the list, or where more than white space stands behind that.
+-- which outside of strings begins with `/`, or where no bracket closes the list.
 unfoldable pub items_from : At → List ℕ → List ℕ → Option (List (List ℕ))
 items_from at front [] = None
 items_from at front (b ∷ bs) =
-    if is_comment at b then None
+    if not at.is_string && b == 47 then None
     else if is_free at && b == 44 then option_map (λ more. front ∷ more) (items_from start [] bs)
     else if is_free at && b == 93 then with_last [] front bs
     else items_from (behind at b) (front ++ b ∷ []) bs

@@ -1,5 +1,5 @@
 -- The text of a jar's rows in a form, and why there is none (this repository's own).
-use Rattle.std.specs.Prelude.{◌≡◌, ◌⊎◌, ℕ, List, Bool, false, map}
+use Rattle.std.specs.Prelude.{◌≡◌, ◌≢◌, ◌⊎◌, ℕ, List, Bool, false, map}
 use Rattle.std.specs.List.{AllByRecursion}
 use Rattle.saved_text.specs.Json.{list_text}
 use Rattle.saved_text.specs.RonLayout.{ron_layout}
@@ -9,10 +9,8 @@ use Rattle.cookie_store.specs.SavedTexts.{IsAnyBeforeYears, Saves}
 use Rattle.cookies_txt.specs.Layout.{cookies_txt}
 use Rattle.cookies_txt.specs.Writing.{IsFirstRefused, held, line_of_row}
 use Rattle.cookies_txt.specs.declared.error.RowFault.{RowFault}
-use Rattle.cookies_txt.specs.declared.error.WriteError.{WriteError}
-use Rattle.cookies_txt.specs.declared.error.WriteError.TheVariants as lines
 use Rattle.cookie_jar.specs.declared.error.SaveError.{SaveError}
-use Rattle.cookie_jar.specs.declared.error.SaveError.TheVariants.{Row as RefusedRow, Year, OutOfMemory}
+use Rattle.cookie_jar.specs.declared.error.SaveError.TheVariants.{OutOfMemory}
 use Rattle.cookie_jar.specs.declared.form.Form.{Form}
 use Rattle.cookie_jar.specs.declared.form.Form.TheVariants.{Ron, Json, Txt}
 
@@ -24,26 +22,20 @@ IsText Txt rows text = text ≡ cookies_txt (map line_of_row rows)
 
 -- the rows that a text of the form can hold: a line of `cookies.txt` doesn't hold every row
 abbrev pub fitting : Form → List Row → List Row
-fitting Ron rows = rows
-fitting Json rows = rows
 fitting Txt rows = held rows
+fitting other rows = rows
 
 -- the texts of the rows are bytes, as RON asks of what it shows
 abbrev pub AreBytesIn : Form → List Row → Type 0
 AreBytesIn Ron rows = AllByRecursion IsOfBytes rows
-AreBytesIn Json rows = Unit {0}
-AreBytesIn Txt rows = Unit {0}
+AreBytesIn other rows = Unit {0}
 
--- why there is none
+-- the rows have no text: one ends in a year below 0, or a line can't hold one, where such aren't passed over
+abbrev pub HaveNoText : Form → Bool → List Row → Type 0
+HaveNoText Txt passing_over rows =
+    (passing_over ≡ false) × (number : ℕ) × (fault : RowFault) × IsFirstRefused rows number fault
+HaveNoText other passing_over rows = IsAnyBeforeYears rows
+
+-- so they aren't saved, or for want of memory
 abbrev pub IsUnsaved : Form → Bool → List Row → SaveError → Type 0
-IsUnsaved Ron passing_over rows e = ((e ≡ Year) × IsAnyBeforeYears rows) ⊎ (e ≡ OutOfMemory)
-IsUnsaved Json passing_over rows e = ((e ≡ Year) × IsAnyBeforeYears rows) ⊎ (e ≡ OutOfMemory)
-IsUnsaved Txt passing_over rows e =
-    (e ≡ OutOfMemory)
-    ⊎ ((passing_over ≡ false) × (number : ℕ) × (fault : RowFault) × IsFirstRefused rows number fault
-    × (e ≡ RefusedRow number fault))
-
--- a step of the code, for a private contract alone: what a refusal to write lines is told as
-abbrev pub of_write : WriteError → SaveError
-of_write (lines.Row number fault) = RefusedRow number fault
-of_write lines.OutOfMemory = OutOfMemory
+IsUnsaved form passing_over rows e = (e ≡ OutOfMemory) ⊎ ((e ≢ OutOfMemory) × HaveNoText form passing_over rows)

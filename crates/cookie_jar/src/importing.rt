@@ -1,11 +1,10 @@
 //! What an import takes of the lines of a `cookies.txt`, or of the items of a list of RON or JSON, each read by itself.
-ghost use Rattle.std.specs.Prelude.{◌≡◌, ◌∷◌, [], IfErr, IfOk, IfSome, IsNone, Ok, map, option_map};
-ghost use Rattle.std.specs.Result.{result_map_both};
+ghost use Rattle.std.specs.Prelude.{◌∷◌, [], IfErr, IfOk, IsNone, IsSome, Some, length, map, option_map};
 ghost use Rattle.jiff.specs.Words.{civil_nanos};
 ghost use Rattle.cookie_store.specs.Given.{ArePicked};
 ghost use Rattle.cookie_store.specs.Rows.{live};
 ghost use Rattle.cookie_store.specs.StoredCookie.{stored_of};
-ghost use Rattle.cookie_jar.specs.Entries.{IsRefusal, entry_text};
+ghost use Rattle.cookie_jar.specs.Entries.{IsRefusal, entry_row, row_of};
 ghost use Rattle.cookie_jar.specs.Importing as spec;
 ghost use Rattle.cookie_jar.specs.Keeping.{IsTaken};
 ghost use Rattle.cookie_jar.specs.Terminal.{ArePlain, ShowsNoControl};
@@ -14,9 +13,10 @@ use crate::entries::{Entry, entries_of};
 use crate::error::ImportError;
 use crate::form::Form;
 use crate::jar::with_rows;
-use crate::keeping::{fault_in, have_control, is_read_pair, is_taken};
+use crate::keeping::{fault_in, have_control, is_taken};
 use crate::reading::placed;
 use crate::terminal::Shown;
+use cookie_client::pair::is_read_pair;
 use cookie_store::{Cookie, CookieStore};
 use cookies_txt::{LineFault, RowFault};
 use jiff::civil::DateTime;
@@ -93,7 +93,7 @@ fn import_entries(
     now: DateTime,
 ) -> Result<(Imported, CookieStore), AllocError>
     ensures { IfOk result (λ done. spec.ImportsEntries form (civil_nanos now)
-        (map entry_text entries.items) store.now.rows (spec.import_text done.0) done.1.rows) }
+        (map entry_row entries.items) store.now.rows (spec.import_text done.0) done.1.rows) }
 {
     let count = entries.len();
     let refused = refused_of(alloc, form, &entries, now)?;
@@ -118,8 +118,8 @@ fn refused_of(
     entries: &[Entry],
     now: DateTime,
 ) -> Result<Vec<Refused>, AllocError>
-    ensures { IfOk result (λ refused. spec.AreRefused form (civil_nanos now) (map entry_text entries.now)
-        (map spec.refused_pair refused.items)) }
+    ensures { IfOk result (λ refused.
+        spec.AreRefused form (civil_nanos now) (map entry_row entries.now) (length refused.items)) }
 {
     let mut refused = Vec::new(alloc);
     for entry in entries {
@@ -134,11 +134,8 @@ fn refused_of(
 
 // Why an entry is refused, where it is.
 fn cause_of(form: Form, row: &Result<Cookie<'static>, Cause>, now: DateTime) -> Option<Cause>
-    ensures some { IfSome result (λ cause.
-        spec.IsUntaken form (civil_nanos now) (result_map_both stored_of (λ cause. cause) row.now)
-        × (cause ≡ spec.cause_of form (result_map_both stored_of (λ cause. cause) row.now))) }
-    ensures none { IsNone result
-        → ¬ (spec.IsUntaken form (civil_nanos now) (result_map_both stored_of (λ cause. cause) row.now)) }
+    ensures some { IsSome result → spec.IsUntaken form (civil_nanos now) (row_of row.now) }
+    ensures none { IsNone result → ¬ (spec.IsUntaken form (civil_nanos now) (row_of row.now)) }
 {
     match row {
         Ok(cookie) => refusal(form, cookie, now),
@@ -148,9 +145,8 @@ fn cause_of(form: Form, row: &Result<Cookie<'static>, Cause>, now: DateTime) -> 
 
 // Why a cookie that isn't expired isn't taken, where that is so.
 fn refusal(form: Form, cookie: &Cookie<'static>, now: DateTime) -> Option<Cause>
-    ensures some { IfSome result (λ cause. spec.IsUntaken form (civil_nanos now) (Ok (stored_of cookie.now))
-        × (cause ≡ spec.refusal_of form (stored_of cookie.now))) }
-    ensures none { IsNone result → ¬ (spec.IsUntaken form (civil_nanos now) (Ok (stored_of cookie.now))) }
+    ensures some { IsSome result → spec.IsUntaken form (civil_nanos now) (Some (stored_of cookie.now)) }
+    ensures none { IsNone result → ¬ (spec.IsUntaken form (civil_nanos now) (Some (stored_of cookie.now))) }
 {
     if cookie.is_expired(now) || is_taken(form, cookie) {
         None
@@ -160,25 +156,17 @@ fn refusal(form: Form, cookie: &Cookie<'static>, now: DateTime) -> Option<Cause>
 }
 
 /// Why the cookie isn't taken into a jar that is saved in this form.
-pub(crate) fn refusal_of(form: Form, cookie: &Cookie<'static>) -> Cause
-    ensures { result ≡ spec.refusal_of form (stored_of cookie.now) }
-{
+pub(crate) fn refusal_of(form: Form, cookie: &Cookie<'static>) -> Cause {
     let (name, value) = cookie.raw().name_value();
     if have_control(cookie) {
         Cause::Control
     } else if is_read_pair(name, value) {
-        unfit_or_host(fault_in(form, cookie))
+        match fault_in(form, cookie) {
+            Some(fault) => Cause::Unfit(fault),
+            None => Cause::HostPrefix,
+        }
     } else {
         Cause::Pair
-    }
-}
-
-fn unfit_or_host(fault: Option<RowFault>) -> Cause
-    ensures { result ≡ spec.unfit_or_host fault }
-{
-    match fault {
-        Some(fault) => Cause::Unfit(fault),
-        None => Cause::HostPrefix,
     }
 }
 
@@ -190,7 +178,7 @@ fn kept_of(
     now: DateTime,
 ) -> Result<Vec<Cookie<'static>>, AllocError>
     ensures { IfOk result (λ kept. ArePicked (IsTaken form)
-        (live (civil_nanos now) (spec.rows_in (map entry_text entries.items)))
+        (live (civil_nanos now) (spec.rows_in (map entry_row entries.items)))
         (map stored_of kept.items)) }
 {
     let mut kept = Vec::new(alloc);
@@ -210,7 +198,7 @@ fn kept_cookie(
     now: DateTime,
 ) -> Option<Cookie<'static>>
     ensures { ArePicked (IsTaken form)
-        (live (civil_nanos now) (spec.row_in (result_map_both stored_of (λ cause. cause) row.entry)))
+        (live (civil_nanos now) (spec.lone (row_of row.entry)))
         (spec.lone (option_map stored_of result)) }
 {
     match row {

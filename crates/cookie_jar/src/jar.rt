@@ -12,7 +12,6 @@ ghost use Rattle.user_agent.specs.CrossSite.{IsHeaderFor};
 ghost use Rattle.cookies_txt.specs.Layout.{text_for};
 ghost use Rattle.cookies_txt.specs.Writing.{held, line_of_row};
 ghost use Rattle.cookie_jar.specs.Asking as asked;
-ghost use Rattle.cookie_jar.specs.Explaining.{Becomes};
 ghost use Rattle.cookie_jar.specs.Entries.{IsRefusal};
 ghost use Rattle.cookie_jar.specs.Importing as entry;
 ghost use Rattle.cookie_jar.specs.Keeping.{AreKept, IsKept, IsTaken, has_control};
@@ -25,7 +24,7 @@ ghost use Rattle.cookie_jar.specs.Told as told;
 
 use crate::asking::{Which, first_value, key_texts, meant, rows_listed};
 use crate::error::{ImportError, ReadError, SaveError};
-use crate::explaining::{Explained, explain_line};
+use crate::explaining::explain_line;
 use crate::form::Form;
 use crate::importing::{Imported, import_text};
 use crate::json_list::rows_json;
@@ -363,10 +362,8 @@ impl Jar {
         url: &Url,
         line: &[u8],
         now: DateTime,
-    ) -> Result<Explained, AllocError>
-        ensures becomes { IfOk result (λ explained. Becomes form rules.now self.now url.now (civil_nanos now) line.now
-            (option_map string_bytes explained.handed) explained.end explained.rows.rows) }
-        ensures shows { IfOk result (λ explained. ShowsNoControl explained.told) }
+    ) -> Result<Shown, AllocError>
+        ensures { IfOk result ShowsNoControl }
     {
         explain_line(&self.client, form, rules, url, line, now)
     }

@@ -2,14 +2,12 @@
 ghost use Rattle.std.specs.Prelude.{◌≡◌, ◌↔◌, ◌||◌, IfOk, IsTrue};
 ghost use Rattle.cookie_store.specs.Given.{ArePicked};
 ghost use Rattle.cookie_store.specs.StoredCookie.{stored_of};
-ghost use Rattle.cookie_text.specs.Again.{IsReadPair};
-ghost use Rattle.cookie_client.specs.Pair as pair_spec;
 ghost use Rattle.cookie_jar.specs.Keeping as spec;
 
 use crate::form::Form;
 use crate::rows::{kept_rows, placed};
 use cookie_client::client::is_held;
-use cookie_client::pair;
+use cookie_client::pair::is_read_pair;
 use cookie_store::{Cookie, CookieStore};
 use cookies_txt::{RowFault, row_fault};
 use jiff::civil::DateTime;
@@ -60,14 +58,6 @@ pub(crate) fn has_control(text: &[u8]) -> bool
     ensures { result ≡ spec.has_control text.now }
 {
     text.iter().any(|b| (*b < 32 && *b != b'\t') || *b == 127)
-}
-
-// Whether what is printed of the name and the value reads as these again.
-pub(crate) fn is_read_pair(name: &str, value: &str) -> bool
-    ensures is { result ≡ pair_spec.is_read_pair name.now value.now }
-    ensures pair { IsTrue result ↔ IsReadPair name.now value.now }
-{
-    pair::is_read_pair(name, value)
 }
 
 /// The store without the rows that a jar doesn't keep, and then without a list of public suffixes. Memory is taken only

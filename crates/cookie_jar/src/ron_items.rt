@@ -1,5 +1,6 @@
 //! The items of a list of RON, each as it stands.
 ghost use Rattle.std.specs.Prelude.{◌≡◌, ◌<◌, ◌^◌, ◌-◌, [], IfOk, map, option_map};
+ghost use Rattle.saved_text.specs.Letters.{is_space};
 ghost use Rattle.cookie_jar.specs.RonItems as spec;
 
 use std::alloc::{AllocError, Global};
@@ -31,13 +32,6 @@ impl At {
         ensures { result ≡ spec.is_free self }
     {
         !self.is_string && self.depth == 0
-    }
-
-    // Whether a comment begins with the byte.
-    fn is_comment(self, b: u8) -> bool
-        ensures { result ≡ spec.is_comment self b }
-    {
-        !self.is_string && b == b'/'
     }
 
     // Behind one byte more.
@@ -111,7 +105,7 @@ fn items_in<'a>(alloc: Global, text: &'a [u8]) -> Result<Option<Vec<&'a [u8]>>, 
     let mut len = 0;
     while len < rest.len() {
         let b = rest[len];
-        if at.is_comment(b) {
+        if !at.is_string && b == b'/' {
             return Ok(None);
         }
         if at.is_free() && b == b',' {
@@ -169,7 +163,7 @@ fn is_blank(text: &[u8]) -> bool
 }
 
 fn is_space(b: u8) -> bool
-    ensures { result ≡ spec.is_space b }
+    ensures { result ≡ is_space b }
 {
     matches!(b, b' ' | b'\t' | b'\n' | b'\r')
 }

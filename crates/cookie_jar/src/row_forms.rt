@@ -1,9 +1,10 @@
 //! Rows with their domains in IDNA form (RFC 6265, section 5.1.2).
-ghost use Rattle.std.specs.Prelude.{◌≡◌, IfOk, string_bytes};
-ghost use Rattle.std.specs.Result.{result_map_both};
+ghost use Rattle.std.specs.Prelude.{◌≡◌, IfOk, option_map, string_bytes};
+ghost use Rattle.std.specs.Result.{result_ok};
 ghost use Rattle.cookie_store.specs.StoredCookie.{stored_of};
 ghost use Rattle.store_parts.specs.DomainMatch.{domain_of};
 ghost use Rattle.store_parts.specs.DomainText.{read_domain};
+ghost use Rattle.cookie_jar.specs.Entries.{row_of};
 ghost use Rattle.cookie_jar.specs.RowForms as spec;
 
 use crate::importing::Cause;
@@ -21,8 +22,7 @@ pub(crate) fn in_form(
     alloc: Global,
     cookie: Cookie<'static>,
 ) -> Result<Result<Cookie<'static>, Cause>, AllocError>
-    ensures { IfOk result (λ row.
-        result_map_both stored_of (λ cause. cause) row ≡ spec.row_in_form (stored_of cookie.entry)) }
+    ensures { IfOk result (λ row. row_of row ≡ spec.row_in_form (stored_of cookie.entry)) }
 {
     match domain_in_form(alloc, &cookie.domain)? {
         Ok(domain) => Ok(Ok(with_domain(cookie, domain))),
@@ -43,7 +43,7 @@ fn domain_in_form(
     domain: &CookieDomain,
 ) -> Result<Result<CookieDomain, Cause>, AllocError>
     ensures { IfOk result (λ found.
-        result_map_both domain_of (λ cause. cause) found ≡ spec.domain_in_form (domain_of domain.now)) }
+        option_map domain_of (result_ok found) ≡ spec.domain_in_form (domain_of domain.now)) }
 {
     match domain {
         CookieDomain::HostOnly(host) => match form_or_cause(alloc, host.as_str())? {
@@ -63,7 +63,7 @@ fn domain_in_form(
 // The form of a domain's text.
 fn form_or_cause(alloc: Global, text: &str) -> Result<Result<String, Cause>, AllocError>
     ensures { IfOk result (λ form.
-        result_map_both string_bytes (λ cause. cause) form ≡ spec.form_or_cause (read_domain text.now)) }
+        option_map string_bytes (result_ok form) ≡ spec.form_in (read_domain text.now)) }
 {
     match CookieDomain::from_text(alloc, text) {
         Ok(CookieDomain::Suffix(form)) => Ok(unless_dotted(form)),
@@ -74,7 +74,7 @@ fn form_or_cause(alloc: Global, text: &str) -> Result<Result<String, Cause>, All
 }
 
 fn unless_dotted(form: String) -> Result<String, Cause>
-    ensures { result_map_both string_bytes (λ cause. cause) result ≡ spec.unless_dotted (string_bytes form) }
+    ensures { option_map string_bytes (result_ok result) ≡ spec.unless_dotted (string_bytes form) }
 {
     match form.as_bytes() {
         [b'.', ..] => Err(Cause::Faulty(LineFault::Domain)),

@@ -4,7 +4,7 @@ ghost use Rattle.jiff.specs.Words.{civil_nanos};
 ghost use Rattle.cookie_store.specs.Given.{ArePicked};
 ghost use Rattle.cookie_store.specs.Placing.{loaded_store};
 ghost use Rattle.cookie_store.specs.Rows.{Row, live};
-ghost use Rattle.cookie_jar.specs.Keeping.{IsKept, IsRefused, IsTaken};
+ghost use Rattle.cookie_jar.specs.Keeping.{IsKept, IsTaken};
 ghost use Rattle.cookie_jar.specs.Rows.{AreCopies, lent_rows};
 
 use crate::form::Form;
@@ -81,9 +81,7 @@ pub(crate) fn kept_rows(
 pub(crate) fn refused_rows(
     alloc: Global,
     store: &CookieStore,
-) -> Result<Vec<&Cookie<'static>>, AllocError>
-    ensures { IfOk result (λ rows. ArePicked IsRefused store.now.rows (lent_rows rows.items)) }
-{
+) -> Result<Vec<&Cookie<'static>>, AllocError> {
     let mut rows = Vec::new(alloc);
     for cookie in store.iter_any() {
         if !is_kept(cookie) {

@@ -1,11 +1,11 @@
 //! The text of a store's rows in a form.
-ghost use Rattle.std.specs.Prelude.{◌≡◌, ◌⊎◌, ◌+◌, [], IfOk, IfErr, false, length, map, string_bytes};
+ghost use Rattle.std.specs.Prelude.{◌≡◌, ◌≢◌, ◌⊎◌, ◌+◌, [], IfOk, IfErr, false, length, map, string_bytes};
 ghost use Rattle.std.specs.List.{AllByRecursion};
 ghost use Rattle.std.specs.Str.{IsUtf8};
 ghost use Rattle.saved_text.specs.Json.{list_text};
 ghost use Rattle.saved_text.specs.RonLayout.{ron_layout};
 ghost use Rattle.cookie_store.specs.SavedLaws.{IsOfBytes};
-ghost use Rattle.cookie_store.specs.SavedTexts.{IsAnyBeforeYears, Saves};
+ghost use Rattle.cookie_store.specs.SavedTexts.{Saves};
 ghost use Rattle.cookies_txt.specs.Layout.{text_for};
 ghost use Rattle.cookies_txt.specs.Writing.{held, line_of_row};
 ghost use Rattle.cookie_jar.specs.Rows.{lent_rows};
@@ -81,8 +81,7 @@ fn whole(alloc: Global, text: Vec<u8>, rows: usize) -> Exported
 fn ron_text(alloc: Global, store: &CookieStore) -> Result<Vec<u8>, SaveError>
     ensures ok { IfOk result (λ text. IsUtf8 text.items × Saves ron_layout store.now.rows text.items) }
     ensures bytes { IfOk result (λ _. AllByRecursion IsOfBytes store.now.rows) }
-    ensures err { IfErr result (λ e. ((e ≡ SaveError.Year) × IsAnyBeforeYears store.now.rows)
-        ⊎ (e ≡ SaveError.OutOfMemory)) }
+    ensures err { IfErr result (spec.IsUnsaved Form.Ron false store.now.rows) }
 {
     let mut draft = Draft::new(alloc);
     match ron::save_incl_expired_and_nonpersistent(store, &mut draft) {
@@ -94,8 +93,7 @@ fn ron_text(alloc: Global, store: &CookieStore) -> Result<Vec<u8>, SaveError>
 
 fn json_text(alloc: Global, store: &CookieStore) -> Result<Vec<u8>, SaveError>
     ensures ok { IfOk result (λ text. IsUtf8 text.items × Saves list_text store.now.rows text.items) }
-    ensures err { IfErr result (λ e. ((e ≡ SaveError.Year) × IsAnyBeforeYears store.now.rows)
-        ⊎ (e ≡ SaveError.OutOfMemory)) }
+    ensures err { IfErr result (spec.IsUnsaved Form.Json false store.now.rows) }
 {
     let mut draft = Draft::new(alloc);
     match json::save_incl_expired_and_nonpersistent(store, &mut draft) {
@@ -157,7 +155,8 @@ pub(crate) fn lines_for(
 
 // What a refusal to write lines is told as.
 fn unwritten(refusal: WriteError) -> SaveError
-    ensures { result ≡ spec.of_write refusal }
+    ensures { ((result ≡ SaveError.OutOfMemory) × (refusal ≡ WriteError.OutOfMemory))
+        ⊎ ((result ≢ SaveError.OutOfMemory) × (refusal ≢ WriteError.OutOfMemory)) }
 {
     match refusal {
         WriteError::Row(number, fault) => SaveError::Row(number, fault),

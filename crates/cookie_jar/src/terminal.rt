@@ -1,6 +1,5 @@
 //! Texts on which no terminal acts.
-ghost use Rattle.std.specs.Prelude.{◌≡◌, ◌<◌, ◌++◌, [], OnOk};
-ghost use Rattle.std.specs.Fmt.{decimal};
+ghost use Rattle.std.specs.Prelude.{◌≡◌, ◌++◌, [], OnOk};
 ghost use Rattle.cookie_jar.specs.Terminal as spec;
 
 use percent_encoding::{AsciiSet, CONTROLS, ascii_set, percent_encode};
@@ -85,11 +84,9 @@ impl Shown {
     /// # Errors
     ///
     /// `AllocError`, for want of memory.
-    pub fn number(&mut self, number: u64) -> Result<(), AllocError>
-        ensures { OnOk result (self.new ≡ self.old ++ decimal number) }
-    {
+    pub fn number(&mut self, number: u64) -> Result<(), AllocError> {
         let digits = format!(in self.alloc; "{number}")?;
-        self.text.push_str(digits.as_str())
+        self.bytes(digits.as_bytes())
     }
 
     /// Adds bytes of others: each that isn't printable ASCII, and `%`, as `%` and two digits.
@@ -110,18 +107,14 @@ impl Shown {
     /// # Errors
     ///
     /// `AllocError`, for want of memory. It may then have a front of the text.
-    pub fn text(&mut self, text: &str) -> Result<(), AllocError>
-        ensures { OnOk result (self.new ≡ self.old ++ spec.shown_text text.now) }
-    {
+    pub fn text(&mut self, text: &str) -> Result<(), AllocError> {
         for c in text.chars() {
             self.push(c)?;
         }
         Ok(())
     }
 
-    fn push(&mut self, c: char) -> Result<(), AllocError>
-        ensures { OnOk result (self.new ≡ self.old ++ spec.shown_char c) }
-    {
+    fn push(&mut self, c: char) -> Result<(), AllocError> {
         if is_acted_on(u32::from(c)) {
             self.push_escape(u32::from(c))
         } else {
@@ -129,21 +122,10 @@ impl Shown {
         }
     }
 
-    fn push_escape(&mut self, code: u32) -> Result<(), AllocError>
-        ensures { OnOk result (self.new ≡ self.old ++ spec.escape code) }
-    {
+    fn push_escape(&mut self, code: u32) -> Result<(), AllocError> {
+        let digits = format!(in self.alloc; "{code:04x}")?;
         self.words("\\u")?;
-        self.push_digit(code / 4096 % 16)?;
-        self.push_digit(code / 256 % 16)?;
-        self.push_digit(code / 16 % 16)?;
-        self.push_digit(code % 16)
-    }
-
-    fn push_digit(&mut self, digit: u32) -> Result<(), AllocError>
-        requires { digit < 16 }
-        ensures { OnOk result (self.new ≡ self.old ++ spec.digit digit) }
-    {
-        self.text.push(char::from_digit(digit, 16).unwrap_or('0'))
+        self.bytes(digits.as_bytes())
     }
 }
 

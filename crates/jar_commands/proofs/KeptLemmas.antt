@@ -1,7 +1,7 @@
 -- What a command gives over the jar's file and its lock, put together of what its steps say.
 use Rattle.std.proofs.Common.{◌≡◌, ◌⊎◌, ◌∙◌, ℕ, Bool, true, false, List, [], Option, None, Result, Ok, Err}
 use Rattle.std.proofs.Common.{Bor, ap, inl, inr, refl, subst, sym}
-use Rattle.std.specs.Prelude.{IfOk, IfErr, OnErr}
+use Rattle.std.specs.Prelude.{IfOk, IfErr, OnErr, unwrap_or}
 use Rattle.std.specs.Option.{option_copied}
 use Rattle.std.specs.Result.{result_map_both}
 use Rattle.kept_file.specs.Locks.{Lock, bytes_of}
@@ -10,7 +10,7 @@ use Rattle.jar_commands.specs.Outcomes.{OutcomeText, outcome_text}
 use Rattle.jar_commands.specs.Performing.{AnswersTexts, Brings, BringsNothing, Source, UnreadBut}
 use Rattle.jar_commands.specs.Plans.{PlanText}
 use Rattle.jar_commands.specs.Program.{Ends, FilesGive, IsOfFiles, IsUnwritten, Printed, RunFails, Unprinted, Writer}
-use Rattle.jar_commands.specs.Program.{output, output_by, prints_text, reads_input, text_in}
+use Rattle.jar_commands.specs.Program.{output, output_by, prints_text, reads_input}
 use Rattle.jar_commands.specs.ProgramKept.{KeepsJar, changes}
 use Rattle.jar_commands.specs.declared.failure.Failure.{Failure}
 use Rattle.jar_commands.specs.declared.failure.Failure.TheVariants.{Output}
@@ -158,7 +158,7 @@ keeps_not Unread reader plan suffixes given brought lock failure brings (inr (in
 -- what an outcome prints is what the whole one prints
 same_output : (b : Bool) (whole outcome : OutcomeText) → IsBut whole outcome
     → output_by b outcome ≡ output_by b whole
-same_output true whole outcome but = ap text_in but.2
+same_output true whole outcome but = ap (λ o. unwrap_or o []) but.2
 same_output false whole outcome but = but.0
 
 pub serves_ok : (Unread : Type 0) (reader : Source) (writer : Writer) (plan : PlanText) (suffixes : List ℕ)

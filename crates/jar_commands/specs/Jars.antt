@@ -1,5 +1,5 @@
--- The jar that a command begins with, and the text that it ends with (this repository's own).
-use Rattle.std.specs.Prelude.{◌≡◌, ◌≢◌, ◌⊎◌, ℕ, ℤ, Bool, true, false, List, [], Option, Some, None, IsSomeAnd, length}
+-- The jar that a command begins with (this repository's own).
+use Rattle.std.specs.Prelude.{◌≡◌, ◌⊎◌, ℕ, ℤ, Bool, true, false, List, [], Option, Some, None, IsSomeAnd, length}
 use Rattle.std.specs.Prelude.{nat_lt}
 use Rattle.publicsuffix.specs.Looks.{IsNotStrange, IsStrange}
 use Rattle.publicsuffix.specs.Rules.{Rule}
@@ -7,23 +7,10 @@ use Rattle.cookie_store.specs.Given.{ArePicked}
 use Rattle.cookie_store.specs.Rows.{Row, Store}
 use Rattle.cookie_client.specs.Loading.{IsNoSuffixList, IsSuffixList}
 use Rattle.cookie_jar.specs.Keeping.{IsKept}
-use Rattle.cookie_jar.specs.Reading.{IsUnread, Reads}
-use Rattle.cookie_jar.specs.Saving.{IsUnsaved}
-use Rattle.cookie_jar.specs.declared.error.ReadError.{ReadError}
-use Rattle.cookie_jar.specs.declared.error.ReadError.TheVariants as read
-use Rattle.cookie_jar.specs.declared.error.SaveError.{SaveError}
-use Rattle.cookie_jar.specs.declared.error.SaveError.TheVariants as save
+use Rattle.cookie_jar.specs.Reading.{IsNoText, Reads}
 use Rattle.cookie_jar.specs.declared.form.Form.{Form}
 use Rattle.jar_commands.specs.declared.failure.Failure.{Failure}
 use Rattle.jar_commands.specs.declared.failure.Failure.TheVariants.{SuffixList, JarText, Memory}
-
--- the text isn't one of the form
-abbrev pub IsNoTextOf : Form → List ℕ → Type 0
-IsNoTextOf form text = (e : ReadError) × (e ≢ read.OutOfMemory) × IsUnread form text e
-
--- the rows have no text of the form; those that a line can't hold count where they aren't passed over
-abbrev pub HaveNoText : Form → Bool → List Row → Type 0
-HaveNoText form passing_over rows = (e : SaveError) × (e ≢ save.OutOfMemory) × IsUnsaved form passing_over rows e
 
 -- the rows of a jar's text that a jar keeps and that aren't expired at the moment, or none where there is no text
 abbrev pub AreRows : Form → ℤ → Option (List ℕ) → List Row → Type 0
@@ -40,28 +27,20 @@ has_rule list = nat_lt 0 (length list)
 abbrev pub IsListOf : List ℕ → List Rule → Type 0
 IsListOf text list = (IsSuffixList text list × IsNotStrange text) × (has_rule list ≡ true)
 
--- the text is no suffix list, or its first line that isn't passed over is of other characters
-abbrev pub IsNoListOfHosts : List ℕ → Type 0
-IsNoListOfHosts text = IsNoSuffixList text ⊎ ((number : ℕ) × IsStrange text number)
-
--- it is one without a rule
-abbrev pub IsRuleless : List ℕ → Type 0
-IsRuleless text = (list : List Rule) × IsSuffixList text list × (has_rule list ≡ false)
-
--- the text is no suffix list, or one without a rule, or memory was refused
+-- the text is no suffix list, or its first line that isn't passed over is of other characters, or it has no rule; or
+-- memory was refused
 abbrev pub MakesNoList : List ℕ → Failure → Type 0
 MakesNoList text failure =
-    (failure ≡ Memory) ⊎ ((failure ≡ SuffixList) × (IsNoListOfHosts text ⊎ IsRuleless text))
+    (failure ≡ Memory)
+    ⊎ ((failure ≡ SuffixList) × ((IsNoSuffixList text ⊎ ((number : ℕ) × IsStrange text number))
+    ⊎ ((list : List Rule) × IsSuffixList text list × (has_rule list ≡ false))))
 
 -- the jar of a suffix list's text and a jar's text, or none
 abbrev pub IsJar : Form → ℤ → List ℕ → Option (List ℕ) → Store → Type 0
 IsJar form now suffixes stored jar = IsListOf suffixes jar.suffixes × AreRows form now stored jar.rows
 
--- No jar is made of these texts: the first is no list, or one without a rule; or it is one, and the other no text of
--- the form; or memory was refused.
+-- no jar is made of these texts: the first makes no list; or it is one, and the other no text of the form
 abbrev pub MakesNoJar : Form → List ℕ → Option (List ℕ) → Failure → Type 0
 MakesNoJar form suffixes stored failure =
-    (failure ≡ Memory)
-    ⊎ (((failure ≡ SuffixList) × (IsNoListOfHosts suffixes ⊎ IsRuleless suffixes))
-    ⊎ ((failure ≡ JarText) × ((list : List Rule) × IsListOf suffixes list)
-    × IsSomeAnd stored (IsNoTextOf form)))
+    MakesNoList suffixes failure
+    ⊎ ((failure ≡ JarText) × ((list : List Rule) × IsListOf suffixes list) × IsSomeAnd stored (IsNoText form))

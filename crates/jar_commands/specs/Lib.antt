@@ -1,4 +1,3 @@
-pub mod Importing
 pub mod Instead
 pub mod Jars
 pub mod KeptSteps
@@ -8,8 +7,5 @@ pub mod Plans
 pub mod Program
 pub mod ProgramKept
 pub mod Receiving
-pub mod RuleNames
 pub mod Setting
 pub mod Started
-pub mod Steps
-pub mod Waiting

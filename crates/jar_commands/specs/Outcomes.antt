@@ -1,5 +1,5 @@
 -- What each command gives, of the jar that it begins with (this repository's own).
-use Rattle.std.specs.Prelude.{◌≡◌, ◌++◌, ℕ, Bool, true, false, List, [], ◌∷◌, Option, Some, None, is_some}
+use Rattle.std.specs.Prelude.{◌≡◌, ◌==◌, ◌++◌, ℕ, Bool, true, false, List, [], ◌∷◌, Option, Some, None, is_some}
 use Rattle.std.specs.Prelude.{if◌then◌else◌, map, option_map, string_bytes}
 use Rattle.url.specs.Parts.{Parts}
 use Rattle.cookie_store.specs.Longest.{AreGivenLongest}
@@ -8,16 +8,19 @@ use Rattle.cookies_txt.specs.Layout.{text_for}
 use Rattle.cookies_txt.specs.Writing.{held, line_of_row}
 use Rattle.cookies_txt.specs.declared.readers.Reader.{Reader}
 use Rattle.cookie_jar.specs.Asking.{first_value, without}
+use Rattle.cookie_jar.specs.Importing.{Imports, ImportText}
 use Rattle.cookie_jar.specs.Keeping.{has_control}
 use Rattle.cookie_jar.specs.Saving.{IsText, fitting}
 use Rattle.cookie_jar.specs.Terminal.{ShowsNoControl}
 use Rattle.cookie_jar.specs.Told.{header_line}
 use Rattle.cookie_jar.specs.declared.form.Form.{Form}
 use Rattle.cookie_jar.specs.declared.taking.End.{End}
+use Rattle.user_agent.specs.CrossSite.{IsHeaderFor}
+use Rattle.user_agent.specs.declared.sites.Initiator.{Initiator}
 use Rattle.jar_commands.specs.Plans.{PlanText}
 use Rattle.jar_commands.specs.Receiving.{TakesHeads, is_any_refused}
 use Rattle.jar_commands.specs.Setting.{TakesSet}
-use Rattle.jar_commands.specs.Started.{IsHeaderFrom}
+use Rattle.jar_commands.specs.Started.{IsStarted}
 use Rattle.jar_commands.specs.declared.outcome.Outcome.{Outcome}
 use Rattle.jar_commands.specs.declared.outcome.Printed.{Printed}
 use Rattle.jar_commands.specs.declared.outcome.Printed.TheVariants.{Exact, Told}
@@ -46,37 +49,24 @@ outcome_text outcome = record {
 abbrev pub Prints : List ℕ → OutcomeText → Type 0
 Prints printed outcome = outcome ≡ record { printed = printed; status = 0; jar = None; file = None }
 
--- what is told is for a terminal, and the files stay
-pub record Shows (status : ℕ) (outcome : OutcomeText) : Type 0 where
+-- what is told is for a terminal; and the texts that the jar and the other file are to hold, where they change
+pub record Tells (status : ℕ) (jar file : Option (List ℕ)) (outcome : OutcomeText) : Type 0 where
   pub shows : ShowsNoControl outcome.printed
   pub ends : outcome.status ≡ status
-  pub jar : outcome.jar ≡ None
-  pub file : outcome.file ≡ None
-
--- so, but that the jar is to hold this text
-pub record Holds (status : ℕ) (text : List ℕ) (outcome : OutcomeText) : Type 0 where
-  pub shows : ShowsNoControl outcome.printed
-  pub ends : outcome.status ≡ status
-  pub jar : outcome.jar ≡ Some text
-  pub file : outcome.file ≡ None
-
--- so, but that the other file is
-pub record Exports (text : List ℕ) (outcome : OutcomeText) : Type 0 where
-  pub shows : ShowsNoControl outcome.printed
-  pub ends : outcome.status ≡ 0
-  pub jar : outcome.jar ≡ None
-  pub file : outcome.file ≡ Some text
+  pub keeps : outcome.jar ≡ jar
+  pub gives : outcome.file ≡ file
 
 -- the jar is to hold the text of these rows that aren't expired
 abbrev pub Keeps : PlanText → ℕ → List Row → OutcomeText → Type 0
 Keeps plan status rows outcome =
-    (text : List ℕ) × IsText plan.form (live plan.now rows) text × Holds status text outcome
+    (text : List ℕ) × IsText plan.form (live plan.now rows) text × Tells status (Some text) None outcome
 
 -- ---- commands that print
 
 abbrev pub GivesHeader : PlanText → Store → Parts → Start → OutcomeText → Type 0
 GivesHeader plan jar url start outcome =
-    (header : List ℕ) × IsHeaderFrom start plan.rules jar.suffixes jar.rows url plan.now header
+    (initiator : Initiator) × IsStarted start initiator
+    × (header : List ℕ) × IsHeaderFor plan.rules jar.suffixes jar.rows url initiator plan.now header
     × (has_control header ≡ false) × Prints (header_line header) outcome
 
 -- the value and a line feed, or nothing where there is none, as the status tells
@@ -108,27 +98,24 @@ GivesSet plan jar url line outcome =
 -- where there was a row to take out, these are left; else the status tells that there was none
 abbrev pub RemovesWhere : Bool → PlanText → List Row → OutcomeText → Type 0
 RemovesWhere true plan rest outcome = Keeps plan 0 rest outcome
-RemovesWhere false plan rest outcome = Shows 1 outcome
+RemovesWhere false plan rest outcome = Tells 1 None None outcome
 
 -- so with the row that a domain, a path and a name mean
 abbrev pub GivesRemoved : PlanText → Store → Option Row → OutcomeText → Type 0
 GivesRemoved plan jar row outcome = RemovesWhere (is_some row) plan (without row jar.rows) outcome
 
-abbrev pub GivesCleared : PlanText → Store → OutcomeText → Type 0
-GivesCleared plan jar outcome = Keeps plan 0 [] outcome
+-- each line or row of another text is taken in, or passed over, or told; the status tells that something was refused,
+-- and nothing is where nothing may be
+abbrev pub GivesImported : PlanText → Store → Form → Bool → List ℕ → OutcomeText → Type 0
+GivesImported plan jar form is_strict given outcome =
+    (done : ImportText) × (new : List Row) × Imports form plan.form plan.now given jar.rows done new
+    × (is_strict ≡ true → done.refused ≡ 0) × Keeps plan (if done.refused == 0 then 0 else 1) new outcome
 
 -- ---- the command that gives rows away
 
--- the rows that a text of the form holds; the jar stays
-abbrev pub GivesText : PlanText → Store → Form → OutcomeText → Type 0
-GivesText plan jar form outcome =
-    (text : List ℕ) × IsText form (fitting form (live plan.now jar.rows)) text × Exports text outcome
-
--- as `cookies.txt` for a reader
-abbrev pub GivesTextFor : PlanText → Store → Reader → OutcomeText → Type 0
-GivesTextFor plan jar reader outcome =
-    Exports (text_for reader (map line_of_row (held (live plan.now jar.rows)))) outcome
-
+-- the rows that a text of the form holds, or as `cookies.txt` for a reader; the jar stays
 abbrev pub GivesExported : PlanText → Store → Form → Option Reader → OutcomeText → Type 0
-GivesExported plan jar form None outcome = GivesText plan jar form outcome
-GivesExported plan jar form (Some reader) outcome = GivesTextFor plan jar reader outcome
+GivesExported plan jar form None outcome =
+    (text : List ℕ) × IsText form (fitting form (live plan.now jar.rows)) text × Tells 0 None (Some text) outcome
+GivesExported plan jar form (Some reader) outcome =
+    Tells 0 None (Some (text_for reader (map line_of_row (held (live plan.now jar.rows))))) outcome

@@ -1,5 +1,5 @@
 -- What a command gives for the texts of the files, and why it gives nothing (this repository's own).
-use Rattle.std.specs.Prelude.{◌≡◌, ◌⊎◌, ◌^◌, ◌-◌, ℕ, ℤ, Bool, true, false, List, [], Option, Some, None}
+use Rattle.std.specs.Prelude.{◌≡◌, ◌≢◌, ◌⊎◌, ◌^◌, ◌-◌, ℕ, ℤ, Bool, true, false, List, [], Option, Some, None}
 use Rattle.std.specs.Prelude.{Result, Ok, Err, IfSome, IsSomeAnd, is_some, ⊤}
 use Rattle.devices.specs.Device.{Rose}
 use Rattle.url.specs.Parts.{Parts}
@@ -7,18 +7,21 @@ use Rattle.cookie_store.specs.Rows.{Row, Store, live}
 use Rattle.cookie_jar.specs.Asking.{meant, without}
 use Rattle.cookie_jar.specs.Entries.{HasNoItems}
 use Rattle.cookie_jar.specs.Importing.{Imports, ImportText}
+use Rattle.cookie_jar.specs.Saving.{HaveNoText}
 use Rattle.cookie_jar.specs.declared.form.Form.{Form}
+use Rattle.cookie_jar.specs.declared.importing.Cause.{Cause}
 use Rattle.cookie_jar.specs.declared.taking.End.{End}
 use Rattle.cookies_txt.specs.declared.readers.Reader.{Reader}
-use Rattle.jar_commands.specs.Importing.{AreLet, GivesImported, IsToldOf}
-use Rattle.jar_commands.specs.Jars.{HaveNoText, IsJar, MakesNoJar}
+use Rattle.jar_commands.specs.Jars.{IsJar, MakesNoJar}
 use Rattle.jar_commands.specs.Outcomes as gives
 use Rattle.jar_commands.specs.Outcomes.{OutcomeText}
 use Rattle.jar_commands.specs.Plans.{PlanText}
 use Rattle.jar_commands.specs.Receiving.{IsNoHeads, TakesHeads}
 use Rattle.jar_commands.specs.Setting.{TakesSet}
 use Rattle.jar_commands.specs.declared.failure.Failure.{Failure}
-use Rattle.jar_commands.specs.declared.failure.Failure.TheVariants.{File, FileRow, FileText, Input, JarRow, Memory}
+use Rattle.jar_commands.specs.declared.failure.Failure.TheVariants.{File, FileEntry, FileRow, FileText, Input, JarRow}
+use Rattle.jar_commands.specs.declared.failure.Failure.TheVariants.{Memory}
+use Rattle.jar_commands.specs.declared.failure.Spot.{Spot}
 use Rattle.jar_commands.specs.declared.plan.Command.{Command}
 use Rattle.jar_commands.specs.declared.plan.Command.TheVariants as command
 use Rattle.jar_commands.specs.declared.plan.Start.{Start}
@@ -60,13 +63,13 @@ Gives plan jar brought (command.Receive url start is_one) outcome =
 Gives plan jar brought (command.Header url start) outcome = gives.GivesHeader plan jar url start outcome
 Gives plan jar brought (command.Get url name) outcome = gives.GivesValue plan jar url name.now outcome
 Gives plan jar brought (command.Set url line) outcome = gives.GivesSet plan jar url line.now outcome
-Gives plan jar brought (command.List which layout) outcome = gives.Shows 0 outcome
-Gives plan jar brought (command.Explain url line) outcome = gives.Shows 0 outcome
+Gives plan jar brought (command.List which layout) outcome = gives.Tells 0 None None outcome
+Gives plan jar brought (command.Explain url line) outcome = gives.Tells 0 None None outcome
 Gives plan jar brought (command.Remove domain path name) outcome =
     gives.GivesRemoved plan jar (meant domain.now path.now name.now jar.rows) outcome
-Gives plan jar brought command.Clear outcome = gives.GivesCleared plan jar outcome
+Gives plan jar brought command.Clear outcome = gives.Keeps plan 0 [] outcome
 Gives plan jar brought (command.Import file form is_strict) outcome =
-    IsSomeAnd brought (λ text. GivesImported plan jar form is_strict text outcome)
+    IsSomeAnd brought (λ text. gives.GivesImported plan jar form is_strict text outcome)
 Gives plan jar brought (command.Export file form reader) outcome = gives.GivesExported plan jar form reader outcome
 
 -- ---- why it gives nothing
@@ -96,14 +99,18 @@ abbrev pub FailsToRemove : PlanText → Store → Option Row → Failure → Typ
 FailsToRemove plan jar row failure =
     (failure ≡ Memory) ⊎ ((is_some row ≡ true) × Unkept plan (without row jar.rows) failure)
 
+-- a line or a row of another text is refused
+abbrev pub IsOfEntry : Failure → Type 0
+IsOfEntry failure = (spot : Spot) × (cause : Cause) × (failure ≡ FileEntry spot cause)
+
 -- `import` of a text: it has no items; something of it is refused where nothing may be; or the rows have no text
 abbrev pub FailsToImportText : PlanText → Store → Form → Bool → List ℕ → Failure → Type 0
 FailsToImportText plan jar form is_strict text failure =
     (failure ≡ Memory)
     ⊎ (((failure ≡ FileText) × HasNoItems form text)
     ⊎ ((done : ImportText) × (new : List Row) × Imports form plan.form plan.now text jar.rows done new
-    × (((is_strict ≡ true) × IsToldOf form done.refused failure)
-    ⊎ (AreLet is_strict done.refused × Unkept plan new failure))))
+    × (((is_strict ≡ true) × (done.refused ≢ 0) × IsOfEntry failure)
+    ⊎ ((is_strict ≡ true → done.refused ≡ 0) × Unkept plan new failure))))
 
 -- `import`
 abbrev pub FailsToImport : PlanText → Store → Form → Bool → Option (List ℕ) → Failure → Type 0
@@ -111,11 +118,9 @@ FailsToImport plan jar form is_strict None failure = failure ≡ File
 FailsToImport plan jar form is_strict (Some text) failure = FailsToImportText plan jar form is_strict text failure
 
 -- `export`
-abbrev pub HasNoText : PlanText → Store → Form → Failure → Type 0
-HasNoText plan jar form failure = (failure ≡ FileRow) × HaveNoText form true (live plan.now jar.rows)
-
 abbrev pub FailsToExport : PlanText → Store → Form → Option Reader → Failure → Type 0
-FailsToExport plan jar form None failure = (failure ≡ Memory) ⊎ HasNoText plan jar form failure
+FailsToExport plan jar form None failure =
+    (failure ≡ Memory) ⊎ ((failure ≡ FileRow) × HaveNoText form true (live plan.now jar.rows))
 FailsToExport plan jar form (Some reader) failure = failure ≡ Memory
 
 -- a command fails so

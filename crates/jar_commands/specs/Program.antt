@@ -1,16 +1,14 @@
 -- What the program tells (this repository's own).
-use Rattle.std.specs.Prelude.{◌≡◌, ◌⊎◌, ℕ, Bool, true, false, List, [], Option, Some, None, Result, Ok, Err, codes}
+use Rattle.std.specs.Prelude.{◌≡◌, ◌⊎◌, ℕ, Bool, true, false, List, [], Option, Result, Ok, Err, codes, unwrap_or}
 use Rattle.std.specs.Io.KnownBytes.{Appends}
 use Rattle.std.specs.Str.{bytes_eq}
 use Rattle.devices.specs.Device.{AppendsFront, Rose}
-use Rattle.cookie_client.specs.Version.{version_line}
 use Rattle.jar_commands.specs.Outcomes.{OutcomeText}
 use Rattle.jar_commands.specs.Performing.{AnswersTexts, Brings, BringsNothing, Source, UnreadBut}
 use Rattle.jar_commands.specs.Plans.{PlanText}
 use Rattle.jar_commands.specs.declared.failure.Failure.{Failure}
 use Rattle.jar_commands.specs.declared.failure.Failure.TheVariants.{SuffixFile, JarInUse, LockFile}
 use Rattle.jar_commands.specs.declared.failure.Failure.TheVariants.{JarFile, File, OwnFile, Output, Memory}
-use Rattle.jar_commands.specs.declared.help.TheConstants.{HELP}
 use Rattle.jar_commands.specs.declared.plan.Command.{Command}
 use Rattle.jar_commands.specs.declared.plan.Command.TheVariants as command
 
@@ -66,13 +64,9 @@ abbrev pub prints_text : Command → Bool
 prints_text (command.Export file form reader) = is_dash file.now
 prints_text other = false
 
-abbrev pub text_in : Option (List ℕ) → List ℕ
-text_in None = []
-text_in (Some text) = text
-
 -- what goes to the output: a text in the place of what would be printed of it
 abbrev pub output_by : Bool → OutcomeText → List ℕ
-output_by true outcome = text_in outcome.file
+output_by true outcome = unwrap_or outcome.file []
 output_by false outcome = outcome.printed
 
 abbrev pub output : Command → OutcomeText → List ℕ
@@ -110,21 +104,17 @@ abbrev pub Serves : Type 0 → Type 0 → Source → Writer → PlanText → Res
 Serves Unread Unwritten reader writer plan (Ok status) = Ends Unread reader writer plan status
 Serves Unread Unwritten reader writer plan (Err failure) = RunFails Unread Unwritten reader writer plan failure
 
--- `cookie-jar`, a space, the version and a line feed
-abbrev pub program_version : List ℕ
-program_version = version_line (codes "cookie-jar")
-
--- the text of `--help`
-abbrev pub help_text : List ℕ
-help_text = HELP.now
-
 -- the exit status: 2 where a failure stops the program
 abbrev pub IsToldBy : Result ℕ Failure → ℕ → Type 0
 IsToldBy (Ok given) status = status ≡ given
 IsToldBy (Err failure) status = status ≡ 2
 
--- what asks for nothing of a jar: a text is printed whole, or the status is 2 behind a front of one
+-- a text is printed whole, or nothing or a front of one
+abbrev pub PrintsOnly : Type 0 → Writer → Result ℕ Failure → Type 0
+PrintsOnly Unwritten writer (Ok status) = (status ≡ 0) × ((text : List ℕ) × Printed writer text)
+PrintsOnly Unwritten writer (Err failure) = Unwritten ⊎ ((text : List ℕ) × Unprinted writer text)
+
+-- what asks for nothing of a jar
 abbrev pub IsWithoutJar : Type 0 → Writer → ℕ → Type 0
 IsWithoutJar Unwritten writer status =
-    ((status ≡ 0) × ((text : List ℕ) × Printed writer text))
-    ⊎ ((status ≡ 2) × (Unwritten ⊎ ((text : List ℕ) × Unprinted writer text)))
+    (given : Result ℕ Failure) × PrintsOnly Unwritten writer given × IsToldBy given status

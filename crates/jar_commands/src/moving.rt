@@ -1,7 +1,7 @@
 //! The command that gives rows to another file.
-ghost use Rattle.std.specs.Prelude.{◌≡◌, ◌⊎◌, IfOk, IfErr};
+ghost use Rattle.std.specs.Prelude.{◌≡◌, IfOk, IfErr, None, Some};
 ghost use Rattle.jar_commands.specs.Outcomes as spec;
-ghost use Rattle.jar_commands.specs.Performing.{FailsToExport, HasNoText};
+ghost use Rattle.jar_commands.specs.Performing.{FailsToExport};
 ghost use Rattle.jar_commands.specs.Plans.{plan_text};
 
 use crate::failure::Failure;
@@ -32,9 +32,8 @@ pub(crate) fn export(
 
 fn export_all(alloc: Global, plan: &Plan<'_>, jar: &Jar, form: Form) -> Result<Outcome, Failure>
     ensures ok { IfOk result (λ outcome.
-        spec.GivesText (plan_text plan.now) jar.now form (spec.outcome_text outcome)) }
-    ensures err { IfErr result (λ failure.
-        (failure ≡ Failure.Memory) ⊎ HasNoText (plan_text plan.now) jar.now form failure) }
+        spec.GivesExported (plan_text plan.now) jar.now form None (spec.outcome_text outcome)) }
+    ensures err { IfErr result (FailsToExport (plan_text plan.now) jar.now form None) }
 {
     match jar.export(form, plan.at) {
         Ok(exported) => exported_outcome(alloc, exported),
@@ -45,7 +44,7 @@ fn export_all(alloc: Global, plan: &Plan<'_>, jar: &Jar, form: Form) -> Result<O
 
 fn export_for(alloc: Global, plan: &Plan<'_>, jar: &Jar, reader: Reader) -> Result<Outcome, Failure>
     ensures ok { IfOk result (λ outcome.
-        spec.GivesTextFor (plan_text plan.now) jar.now reader (spec.outcome_text outcome)) }
+        spec.GivesExported (plan_text plan.now) jar.now Form.Txt (Some reader) (spec.outcome_text outcome)) }
     ensures err { IfErr result (λ failure. failure ≡ Failure.Memory) }
 {
     match jar.export_for(reader, plan.at) {
@@ -56,7 +55,7 @@ fn export_for(alloc: Global, plan: &Plan<'_>, jar: &Jar, reader: Reader) -> Resu
 
 // The text of the other file, and what is told of it: how many rows it holds, and those that it doesn't.
 fn exported_outcome(alloc: Global, exported: Exported) -> Result<Outcome, Failure>
-    ensures ok { IfOk result (λ outcome. spec.Exports exported.text.items (spec.outcome_text outcome)) }
+    ensures ok { IfOk result (λ outcome. spec.Tells 0 None (Some exported.text.items) (spec.outcome_text outcome)) }
     ensures err { IfErr result (λ failure. failure ≡ Failure.Memory) }
 {
     let mut told = count_line(alloc, exported.rows)?;

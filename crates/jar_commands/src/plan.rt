@@ -1,10 +1,10 @@
 //! What is asked, read: a moment, forms, rules, a wait, and a command with its URLs.
-ghost use Rattle.std.specs.Prelude.{◌≡◌, ◌⊎◌, IfErr, IfOk, IfSome, IsNone, None, Some, false, option_map};
+ghost use Rattle.std.specs.Prelude.{◌≡◌, ◌⊎◌, IfErr, IfOk, IsNone, MatchOption, None, Some, false, option_map};
 ghost use Rattle.jiff.specs.Words.{civil_nanos};
+ghost use Rattle.cookie_client.specs.Moment as moment_spec;
+ghost use Rattle.user_agent.specs.Refusals.{browser_rules};
 ghost use Rattle.jar_commands.specs.Plans as spec;
-ghost use Rattle.jar_commands.specs.RuleNames.{rules_asked};
 ghost use Rattle.jar_commands.specs.Started as started;
-ghost use Rattle.jar_commands.specs.Waiting as waiting;
 
 use crate::about::{Stopped, plain_about};
 use crate::failure::Failure;
@@ -109,7 +109,7 @@ pub struct Plan<'a> {
 ///
 /// The first of `Moment`, `Format`, `Rules`, `OwnFile`, where an export is to the name of the jar, `Url`, where a text
 /// isn't a plain URL, `From`, where that of the page isn't one, `FileFormat`, and `Wait`; `Memory` where memory was
-/// refused for the rules or a URL.
+/// refused for a URL.
 pub fn plan_of<'a>(
     alloc: Global,
     words: &Words<'a>,
@@ -137,8 +137,8 @@ pub fn plan_of<'a>(
 // ---- the moment, the form, the rules and the wait
 
 fn moment(alloc: Global, text: Option<&str>, clock: Option<DateTime>) -> Result<DateTime, Stopped>
-    ensures ok { IfOk result (λ at. Some (civil_nanos at)
-        ≡ spec.moment_asked (option_map (λ text. text.now) text.entry) (option_map civil_nanos clock)) }
+    ensures ok { IfOk result (λ at. MatchOption text.entry (option_map civil_nanos clock ≡ Some (civil_nanos at))
+        (λ text. moment_spec.moment_of text.now ≡ Some (civil_nanos at))) }
     ensures err { IfErr result (λ stopped. stopped.failure ≡ Failure.Moment) }
 {
     let Some(text) = text else {
@@ -171,41 +171,30 @@ fn form_asked(alloc: Global, words: &Words<'_>) -> Result<Form, Stopped> {
 const ENDINGS: &str = ": ends in neither .json, .ron nor .txt";
 
 // The form that the jar's name ends with, and JSON where its last part has no dot.
-fn form_told(jar: &str) -> Option<Form>
-    ensures { result ≡ spec.form_told jar.now }
-{
+fn form_told(jar: &str) -> Option<Form> {
     match Form::of(jar) {
         Some(form) => Some(form),
-        None if is_dotted(jar) => None,
+        None if last_part(jar).contains('.') => None,
         None => Some(Form::Json),
     }
 }
 
-// Whether a dot stands in the last part of a name.
-fn is_dotted(name: &str) -> bool
-    ensures { result ≡ spec.is_dotted name.now }
-{
-    last_part(name).iter().any(|b| *b == b'.')
-}
-
 /// What stands behind the last slash of a name.
-pub(crate) fn last_part(name: &str) -> &[u8]
-    ensures { result.now ≡ spec.last_part name.now }
-{
-    match name.rfind('/') {
-        Some(at) => &name.as_bytes()[at + 1..],
-        None => name.as_bytes(),
+pub(crate) fn last_part(name: &str) -> &str {
+    match name.rsplit_once('/') {
+        Some((_, last)) => last,
+        None => name,
     }
 }
 
 fn rules_for(alloc: Global, list: Option<&str>) -> Result<Rules, Stopped>
-    ensures ok { IfOk result (λ rules. rules_asked (option_map (λ text. text.now) list.entry) ≡ Some rules) }
+    ensures { IsNone list.entry → IfOk result (λ rules. rules ≡ browser_rules) }
 {
-    match rules_of(alloc, list) {
-        Ok(rules) => Ok(rules),
-        Err(failure) => Err(Stopped::named(
+    match rules_of(list) {
+        Some(rules) => Ok(rules),
+        None => Err(Stopped::named(
             alloc,
-            failure,
+            Failure::Rules,
             list.unwrap_or(""),
             ": neither browser, none nor names of rules between commas",
         )),
@@ -213,28 +202,12 @@ fn rules_for(alloc: Global, list: Option<&str>) -> Result<Rules, Stopped>
 }
 
 fn wait_asked(alloc: Global, text: Option<&str>) -> Result<u64, Stopped> {
-    match wait_of(text) {
-        Some(seconds) => Ok(seconds),
-        None => Err(Stopped::named(
-            alloc,
-            Failure::Wait,
-            text.unwrap_or(""),
-            ": no whole number of seconds",
-        )),
-    }
-}
-
-// The seconds that are asked, or ten.
-fn wait_of(text: Option<&str>) -> Option<u64>
-    ensures some { IfSome result (waiting.IsWait (option_map (λ text. text.now) text.entry)) }
-    ensures none { IsNone result → waiting.IsNoWait (option_map (λ text. text.now) text.entry) }
-{
-    match text {
-        Some(text) => match text.parse::<u64>() {
-            Ok(seconds) => Some(seconds),
-            Err(_) => None,
-        },
-        None => Some(WAIT),
+    let Some(text) = text else {
+        return Ok(WAIT);
+    };
+    match text.parse::<u64>() {
+        Ok(seconds) => Ok(seconds),
+        Err(_) => Err(Stopped::named(alloc, Failure::Wait, text, ": no whole number of seconds")),
     }
 }
 

@@ -1,6 +1,6 @@
 //! What the program prints, and the other file of an export, which it writes before.
 ghost use Rattle.std.specs.Prelude.{◌≡◌, ◌⊎◌, IfErr, IfOk, MatchOption, OnOk, [], ◌++◌, ◌∷◌, option_map};
-ghost use Rattle.std.specs.Prelude.{string_bytes, true};
+ghost use Rattle.std.specs.Prelude.{string_bytes, true, unwrap_or};
 ghost use Rattle.std.specs.Io.KnownBytes.{Keeps};
 ghost use Rattle.devices.specs.Device.{Rose};
 ghost use Rattle.plain_url.specs.Plain.{HasNoPlain};
@@ -95,7 +95,7 @@ fn print_text<W: Sink>(outcome: Outcome, writer: &mut W) -> Result<Done, Stopped
 
 // The text of the other file.
 fn text_in(file: &Option<Vec<u8>>) -> &[u8]
-    ensures { result.now ≡ spec.text_in (option_map (λ text. text.items) file.now) }
+    ensures { result.now ≡ unwrap_or (option_map (λ text. text.items) file.now) [] }
 {
     match file {
         Some(text) => text.as_slice(),
@@ -105,25 +105,16 @@ fn text_in(file: &Option<Vec<u8>>) -> &[u8]
 
 /// Prints the help.
 pub(crate) fn print_help<W: Sink>(writer: &mut W) -> Result<u8, Failure>
-    ensures ok { IfOk result (λ status. (status ≡ 0) × spec.Printed
-        (spec.written_by W.written W.failures writer.old writer.new)
-        spec.help_text) }
-    ensures err { IfErr result (λ failure. (failure ≡ Failure.Output) × spec.Unprinted
-        (spec.written_by W.written W.failures writer.old writer.new)
-        spec.help_text) }
+    ensures { spec.PrintsOnly (writer.new ≡ writer.old)
+        (spec.written_by W.written W.failures writer.old writer.new) result }
 {
     print(writer, HELP.as_bytes(), 0)
 }
 
 /// Prints the line of the version.
 pub(crate) fn print_version<W: Sink>(alloc: Global, writer: &mut W) -> Result<u8, Failure>
-    ensures ok { IfOk result (λ status. (status ≡ 0) × spec.Printed
-        (spec.written_by W.written W.failures writer.old writer.new)
-        spec.program_version) }
-    ensures err { IfErr result (λ failure. ((failure ≡ Failure.Output) × spec.Unprinted
-        (spec.written_by W.written W.failures writer.old writer.new)
-        spec.program_version)
-        ⊎ ((failure ≡ Failure.Memory) × (writer.new ≡ writer.old))) }
+    ensures { spec.PrintsOnly (writer.new ≡ writer.old)
+        (spec.written_by W.written W.failures writer.old writer.new) result }
 {
     match version_line(alloc, NAME) {
         Ok(line) => print(writer, line.as_bytes(), 0),
@@ -138,11 +129,7 @@ pub(crate) fn print_version<W: Sink>(alloc: Global, writer: &mut W) -> Result<u8
 /// `Url` where there is none, `Memory`, and `Output` where the writer failed.
 pub(crate) fn print_plain<W: Sink>(alloc: Global, text: &str, writer: &mut W) -> Result<u8, Failure>
     ensures { urls.GivesPlain (writer.new ≡ writer.old)
-        (record {
-          written = (W.written writer.old, W.written writer.new);
-          unwritten = (W.failures writer.old, W.failures writer.new);
-        })
-        text.now result }
+        (spec.written_by W.written W.failures writer.old writer.new) text.now result }
 {
     match plain_line(alloc, text) {
         Ok(Some(line)) => print(writer, line.as_bytes(), 0),

@@ -42,7 +42,7 @@ use std::io::ErrorKind;
 /// the jar is read, its new text is put in its place, and the lock is given back before anything is printed.
 ///
 /// `url TEXT` has no jar: it prints the plain text for TEXT.
-#[tactic(auto, using(crate::proofs::ProgramLemmas::plain_without))]
+#[tactic(auto, using(crate::proofs::ProgramLemmas::plain_only))]
 pub fn program<H: Files + AllocGlobal, K: Keeper, R: Source, W: Sink>(
     rt: &H,
     words: &[String],

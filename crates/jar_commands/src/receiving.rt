@@ -1,5 +1,5 @@
 //! The command that takes what URLs answered.
-ghost use Rattle.std.specs.Prelude.{◌≡◌, ◌⊎◌, ◌||◌, is_some, IfOk, IfErr, IsSomeAnd, OnOk, map};
+ghost use Rattle.std.specs.Prelude.{◌≡◌, ◌⊎◌, ◌||◌, ◌∷◌, [], Bool, Some, is_some, IfOk, IfErr, IsSomeAnd, OnOk, map};
 ghost use Rattle.std.specs.Prelude.{if◌then◌else◌};
 ghost use Rattle.std.specs.Option.{option_copied};
 ghost use Rattle.jiff.specs.Words.{civil_nanos};
@@ -10,7 +10,6 @@ ghost use Rattle.jar_commands.specs.Performing.{FailsToReceive};
 ghost use Rattle.jar_commands.specs.Plans.{plan_text};
 ghost use Rattle.jar_commands.specs.Receiving as spec;
 ghost use Rattle.jar_commands.specs.Started.{TakesFrom};
-ghost use Rattle.jar_commands.specs.Steps.{FailsToTake, TakesVisit};
 
 use crate::failure::Failure;
 use crate::jar_text::saved;
@@ -63,7 +62,8 @@ fn receive_text(
 ) -> Result<Outcome, Failure>
     ensures ok { IfOk result (λ outcome.
         GivesReceived (plan_text plan.now) jar.old url.now start.now is_one text.now (outcome_text outcome)) }
-    ensures err { IfErr result (FailsToTake (plan_text plan.now) jar.old url.now start.now is_one text.now) }
+    ensures err { IfErr result
+        (FailsToReceive (plan_text plan.now) jar.old url.now start.now is_one (Some text.now)) }
 {
     let Received {
         told,
@@ -223,9 +223,9 @@ fn receive_visit(
     visit: &Visit<'_>,
     received: &mut Received,
 ) -> Result<(), AllocError>
-    ensures ok { OnOk result (TakesVisit plan.now.form plan.now.rules start.now jar.old.suffixes jar.old.rows
-        (civil_nanos plan.now.at) (visit_text visit.now) received.old.is_any_refused received.new.is_any_refused
-        jar.new.rows) }
+    ensures ok { OnOk result ((refused : Bool) × spec.TakesVisits plan.now.form plan.now.rules start.now
+        jar.old.suffixes jar.old.rows (civil_nanos plan.now.at) (visit_text visit.now ∷ []) refused jar.new.rows
+        × (received.new.is_any_refused ≡ (received.old.is_any_refused || refused))) }
     ensures list { jar.new.suffixes ≡ jar.old.suffixes }
 {
     let read = visit.set_cookie_lines(alloc)?;

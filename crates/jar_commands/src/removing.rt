@@ -37,7 +37,7 @@ pub(crate) fn remove(
 /// `clear`.
 pub(crate) fn clear(alloc: Global, plan: &Plan<'_>, jar: &mut Jar) -> Result<Outcome, Failure>
     ensures ok { IfOk result (λ outcome.
-        spec.GivesCleared (plan_text plan.now) jar.old (spec.outcome_text outcome)) }
+        spec.Keeps (plan_text plan.now) 0 [] (spec.outcome_text outcome)) }
     ensures err { IfErr result (λ failure.
         (failure ≡ Failure.Memory) ⊎ Unkept (plan_text plan.now) [] failure) }
 {

@@ -1,5 +1,5 @@
 //! The commands that print what a jar holds.
-ghost use Rattle.std.specs.Prelude.{◌≡◌, ◌++◌, ◌∷◌, [], IfOk, IfErr, string_bytes};
+ghost use Rattle.std.specs.Prelude.{◌≡◌, ◌++◌, ◌∷◌, [], IfOk, IfErr, None, string_bytes};
 ghost use Rattle.jar_commands.specs.Outcomes as spec;
 ghost use Rattle.jar_commands.specs.Plans.{plan_text};
 
@@ -63,7 +63,7 @@ pub(crate) fn list(
     which: &Which<'_>,
     layout: Layout,
 ) -> Result<Outcome, Failure>
-    ensures ok { IfOk result (λ outcome. spec.Shows 0 (spec.outcome_text outcome)) }
+    ensures ok { IfOk result (λ outcome. spec.Tells 0 None None (spec.outcome_text outcome)) }
     ensures err { IfErr result (λ failure. failure ≡ Failure.Memory) }
 {
     Ok(Outcome::shown(jar.list(which, layout, plan.at)?, 0))
@@ -71,11 +71,11 @@ pub(crate) fn list(
 
 /// `explain URL LINE`.
 pub(crate) fn explain(plan: &Plan<'_>, jar: &Jar, url: &Url, line: &str) -> Result<Outcome, Failure>
-    ensures ok { IfOk result (λ outcome. spec.Shows 0 (spec.outcome_text outcome)) }
+    ensures ok { IfOk result (λ outcome. spec.Tells 0 None None (spec.outcome_text outcome)) }
     ensures err { IfErr result (λ failure. failure ≡ Failure.Memory) }
 {
-    let explained = jar.explain(plan.form, &plan.rules, url, line.as_bytes(), plan.at)?;
-    Ok(Outcome::shown(explained.told, 0))
+    let told = jar.explain(plan.form, &plan.rules, url, line.as_bytes(), plan.at)?;
+    Ok(Outcome::shown(told, 0))
 }
 
 // A text that is printed, while each file stays as it was.

@@ -1,4 +1,4 @@
-use Rattle.std.proofs.Common.{◌∙◌, inl, refl, subst, sym}
+use Rattle.std.proofs.Common.{◌∙◌, inr, subst, sym}
 use Rattle.std.specs.Str.{IsUtf8}
 use Rattle.cookie_jar.proofs.SavingLemmas.{behind_nothing, year_only}
 use Rattle.cookie_jar.proofs.saving.ron_text.Goals as goal
@@ -11,4 +11,4 @@ returns-in-Ok-clause-ok c =
 
 pub returns-in-Err-Year-clause-err : goal.returns-in-Err-Year-clause-err
 returns-in-Err-Year-clause-err c =
-    inl (refl, year_only _ _ _ _ c.in-Err-Year.field-0-is c.in-Err-Year.ensures.err)
+    inr (λ e. cc, year_only _ _ _ _ c.in-Err-Year.field-0-is c.in-Err-Year.ensures.err)

@@ -1,9 +1,9 @@
 use Rattle.std.proofs.Common.{◌≡◌, option_map, refl}
 use Rattle.std.specs.Option.{option_copied}
 use Rattle.jar_commands.specs.Outcomes.{outcome_text}
-use Rattle.jar_commands.specs.Performing.{Source}
+use Rattle.jar_commands.specs.Performing.{read_by}
 use Rattle.jar_commands.specs.Plans.{plan_text}
-use Rattle.jar_commands.specs.Program.{Writer, reads_input}
+use Rattle.jar_commands.specs.Program.{reads_input, written_by}
 use Rattle.jar_commands.specs.ProgramKept.{changes}
 use Rattle.jar_commands.proofs.KeptLemmas.{brought_as, first_not_brought, keeps_err, keeps_not, keeps_ok, list_not_read}
 use Rattle.jar_commands.proofs.KeptLemmas.{serves_err, serves_not, serves_ok}
@@ -11,15 +11,9 @@ use Rattle.jar_commands.proofs.program.serve.Goals as goal
 
 pub returns-in-Err-clause-serves_err : goal.returns-in-Err-clause-serves_err
 returns-in-Err-clause-serves_err g c =
-    let reader : Source = record {
-      left = g.R.Source.left c.args.reader.now;
-      reads = g.R.Source.reads c.bring-given.new.reader;
-      unread = (g.R.Failing.failures c.args.reader.now, g.R.Failing.failures c.bring-given.new.reader);
-    } in
-    let writer : Writer = record {
-      written = (g.W.Sink.written c.args.writer.now, g.W.Sink.written c.args.writer.now);
-      unwritten = (g.W.Failing.failures c.args.writer.now, g.W.Failing.failures c.args.writer.now);
-    } in
+    let reader = read_by g.R.Source.left g.R.Source.reads g.R.Failing.failures c.args.reader.now
+    c.bring-given.new.reader in
+    let writer = written_by g.W.Sink.written g.W.Failing.failures c.args.writer.now c.args.writer.now in
     list_not_read (c.bring-given.new.reader ≡ c.args.reader.now) (c.args.writer.now ≡ c.args.writer.now) reader writer
     (plan_text c.args.plan.now)
     (λ brought. option_map (λ text. text.items) brought)
@@ -28,15 +22,9 @@ returns-in-Err-clause-serves_err g c =
 
 pub returns-in-Err-given-clause-serves_err : goal.returns-in-Err-given-clause-serves_err
 returns-in-Err-given-clause-serves_err g c =
-    let reader : Source = record {
-      left = g.R.Source.left c.args.reader.now;
-      reads = g.R.Source.reads c.bring-given.new.reader;
-      unread = (g.R.Failing.failures c.args.reader.now, g.R.Failing.failures c.bring-given.new.reader);
-    } in
-    let writer : Writer = record {
-      written = (g.W.Sink.written c.args.writer.now, g.W.Sink.written c.args.writer.now);
-      unwritten = (g.W.Failing.failures c.args.writer.now, g.W.Failing.failures c.args.writer.now);
-    } in
+    let reader = read_by g.R.Source.left g.R.Source.reads g.R.Failing.failures c.args.reader.now
+    c.bring-given.new.reader in
+    let writer = written_by g.W.Sink.written g.W.Failing.failures c.args.writer.now c.args.writer.now in
     first_not_brought (c.bring-given.new.reader ≡ c.args.reader.now) (c.args.writer.now ≡ c.args.writer.now) reader
     writer (plan_text c.args.plan.now)
     c.in-Err-given.stopped.failure c.first_of.result.failure
@@ -44,15 +32,9 @@ returns-in-Err-given-clause-serves_err g c =
 
 pub returns-in-Ok-outcome_of-clause-serves_ok : goal.returns-in-Ok-outcome_of-clause-serves_ok
 returns-in-Ok-outcome_of-clause-serves_ok g c =
-    let reader : Source = record {
-      left = g.R.Source.left c.args.reader.now;
-      reads = g.R.Source.reads c.bring-given.new.reader;
-      unread = (g.R.Failing.failures c.args.reader.now, g.R.Failing.failures c.bring-given.new.reader);
-    } in
-    let writer : Writer = record {
-      written = (g.W.Sink.written c.args.writer.now, g.W.Sink.written c.finish.new.writer);
-      unwritten = (g.W.Failing.failures c.args.writer.now, g.W.Failing.failures c.finish.new.writer);
-    } in
+    let reader = read_by g.R.Source.left g.R.Source.reads g.R.Failing.failures c.args.reader.now
+    c.bring-given.new.reader in
+    let writer = written_by g.W.Sink.written g.W.Failing.failures c.args.writer.now c.finish.new.writer in
     let given = c.in-Ok-given.ensures.ok in
     serves_ok (c.bring-given.new.reader ≡ c.args.reader.now) reader writer (plan_text c.args.plan.now)
     c.deref.result.now given.0 (option_copied c.as_deref.result)
@@ -64,15 +46,9 @@ returns-in-Ok-outcome_of-clause-serves_ok g c =
 
 pub returns-in-Ok-outcome_of-clause-serves_err : goal.returns-in-Ok-outcome_of-clause-serves_err
 returns-in-Ok-outcome_of-clause-serves_err g c =
-    let reader : Source = record {
-      left = g.R.Source.left c.args.reader.now;
-      reads = g.R.Source.reads c.bring-given.new.reader;
-      unread = (g.R.Failing.failures c.args.reader.now, g.R.Failing.failures c.bring-given.new.reader);
-    } in
-    let writer : Writer = record {
-      written = (g.W.Sink.written c.args.writer.now, g.W.Sink.written c.finish.new.writer);
-      unwritten = (g.W.Failing.failures c.args.writer.now, g.W.Failing.failures c.finish.new.writer);
-    } in
+    let reader = read_by g.R.Source.left g.R.Source.reads g.R.Failing.failures c.args.reader.now
+    c.bring-given.new.reader in
+    let writer = written_by g.W.Sink.written g.W.Failing.failures c.args.writer.now c.finish.new.writer in
     let given = c.in-Ok-given.ensures.ok in
     serves_err (c.bring-given.new.reader ≡ c.args.reader.now) (c.finish.new.writer ≡ c.args.writer.now) reader writer
     (plan_text c.args.plan.now)
@@ -85,15 +61,9 @@ returns-in-Ok-outcome_of-clause-serves_err g c =
 
 pub returns-in-Ok-outcome_of-clause-keeps_ok : goal.returns-in-Ok-outcome_of-clause-keeps_ok
 returns-in-Ok-outcome_of-clause-keeps_ok g c =
-    let reader : Source = record {
-      left = g.R.Source.left c.args.reader.now;
-      reads = g.R.Source.reads c.bring-given.new.reader;
-      unread = (g.R.Failing.failures c.args.reader.now, g.R.Failing.failures c.bring-given.new.reader);
-    } in
-    let writer : Writer = record {
-      written = (g.W.Sink.written c.args.writer.now, g.W.Sink.written c.finish.new.writer);
-      unwritten = (g.W.Failing.failures c.args.writer.now, g.W.Failing.failures c.finish.new.writer);
-    } in
+    let reader = read_by g.R.Source.left g.R.Source.reads g.R.Failing.failures c.args.reader.now
+    c.bring-given.new.reader in
+    let writer = written_by g.W.Sink.written g.W.Failing.failures c.args.writer.now c.finish.new.writer in
     let given = c.in-Ok-given.ensures.ok in
     keeps_ok (c.bring-given.new.reader ≡ c.args.reader.now) reader writer (plan_text c.args.plan.now)
     c.deref.result.now given.0 (option_copied c.as_deref.result)
@@ -105,11 +75,8 @@ returns-in-Ok-outcome_of-clause-keeps_ok g c =
 
 pub returns-in-Ok-outcome_of-clause-keeps_err : goal.returns-in-Ok-outcome_of-clause-keeps_err
 returns-in-Ok-outcome_of-clause-keeps_err g c =
-    let reader : Source = record {
-      left = g.R.Source.left c.args.reader.now;
-      reads = g.R.Source.reads c.bring-given.new.reader;
-      unread = (g.R.Failing.failures c.args.reader.now, g.R.Failing.failures c.bring-given.new.reader);
-    } in
+    let reader = read_by g.R.Source.left g.R.Source.reads g.R.Failing.failures c.args.reader.now
+    c.bring-given.new.reader in
     let given = c.in-Ok-given.ensures.ok in
     keeps_err (c.bring-given.new.reader ≡ c.args.reader.now) reader (plan_text c.args.plan.now)
     c.deref.result.now given.0 (option_copied c.as_deref.result)
@@ -121,15 +88,9 @@ returns-in-Ok-outcome_of-clause-keeps_err g c =
 
 pub returns-clause-serves_err : goal.returns-clause-serves_err
 returns-clause-serves_err g c =
-    let reader : Source = record {
-      left = g.R.Source.left c.args.reader.now;
-      reads = g.R.Source.reads c.bring-given.new.reader;
-      unread = (g.R.Failing.failures c.args.reader.now, g.R.Failing.failures c.bring-given.new.reader);
-    } in
-    let writer : Writer = record {
-      written = (g.W.Sink.written c.args.writer.now, g.W.Sink.written c.args.writer.now);
-      unwritten = (g.W.Failing.failures c.args.writer.now, g.W.Failing.failures c.args.writer.now);
-    } in
+    let reader = read_by g.R.Source.left g.R.Source.reads g.R.Failing.failures c.args.reader.now
+    c.bring-given.new.reader in
+    let writer = written_by g.W.Sink.written g.W.Failing.failures c.args.writer.now c.args.writer.now in
     let given = c.in-Ok-given.ensures.ok in
     serves_not (c.bring-given.new.reader ≡ c.args.reader.now) (c.args.writer.now ≡ c.args.writer.now) reader writer
     (plan_text c.args.plan.now)
@@ -142,11 +103,8 @@ returns-clause-serves_err g c =
 
 pub returns-clause-keeps_err : goal.returns-clause-keeps_err
 returns-clause-keeps_err g c =
-    let reader : Source = record {
-      left = g.R.Source.left c.args.reader.now;
-      reads = g.R.Source.reads c.bring-given.new.reader;
-      unread = (g.R.Failing.failures c.args.reader.now, g.R.Failing.failures c.bring-given.new.reader);
-    } in
+    let reader = read_by g.R.Source.left g.R.Source.reads g.R.Failing.failures c.args.reader.now
+    c.bring-given.new.reader in
     let given = c.in-Ok-given.ensures.ok in
     keeps_not (c.bring-given.new.reader ≡ c.args.reader.now) reader (plan_text c.args.plan.now)
     c.deref.result.now given.0 (option_copied c.as_deref.result)
