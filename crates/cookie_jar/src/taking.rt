@@ -28,8 +28,8 @@ pub enum End {
     Tab,
 }
 
-/// Takes the lines of an answer at `now` to a request to this URL that was started so into the client of a jar that is to
-/// be saved in this form, one after another, each behind these rules.
+/// Takes the lines of an answer at `now` to a request to this URL that was started so into the client of a jar that is
+/// to be saved in this form, one after another, each behind these rules.
 ///
 /// # Errors
 ///

@@ -2,7 +2,7 @@
 use Rattle.std.proofs.Common.{◌≡◌, ℕ, ℤ, ◌+◌, ◌<◌, List, [], ◌∷◌, ◌++◌, length, map, take, drop, get_or}
 use Rattle.std.proofs.Common.{inl, inr, refl, sym, ap, subst, ◌∙◌, append_assoc, Result, Ok, Err}
 use Rattle.std.proofs.lemmas.List.{append-nil, drop_more, map-append, take-append-drop, take_more}
-use Rattle.std.specs.Prelude.{IfErr, OnOk, Bool, Some}
+use Rattle.std.specs.Prelude.{IfErr, Bool, Some}
 use Rattle.std.specs.Int.{to_le_bytes, w64}
 use Rattle.jiff.specs.Types.{DateTime}
 use Rattle.cookie_text.specs.Record.{Seen}
@@ -86,10 +86,6 @@ stops_at on_ring text xs i d old mid now nonces left told refused less all why =
 }
 
 -- ---- a value that is read
-
-pub on_ok_gives : {A E : Type 0} (r : Result A E) (P Q : Type 0) → (P → Q) → OnOk r P → OnOk r Q
-on_ok_gives (Ok x) P Q f h = f h
-on_ok_gives (Err e) P Q f h = tt
 
 pub read_more : (told first later value text : List ℕ) (place : ℕ) → first ≡ told ++ item value
     → text ≡ to_le_bytes w64 place → later ≡ first ++ item text → later ≡ told ++ placed_text (Some (value, place))

@@ -14,4 +14,5 @@ returns-in-Err-clause-tells g c =
     (Err c.in-Err.stopped.failure, c.in-Err.ensures.serves_err, c.with_rows-in-Err.ensures ∙ c.stopped.ensures)
 
 pub returns-in-Err-clause-keeps : goal.returns-in-Err-clause-keeps
-returns-in-Err-clause-keeps g c = kept_at _ _ _ _ _ _ c.in-Err.ensures.keeps_err (c.with_rows-in-Err.ensures ∙ c.stopped.ensures)
+returns-in-Err-clause-keeps g c =
+    kept_at _ _ _ _ _ _ c.in-Err.ensures.keeps_err (c.with_rows-in-Err.ensures ∙ c.stopped.ensures)
