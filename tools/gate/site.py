@@ -55,15 +55,6 @@ class Site(Handler):
 
 class Quiet(ThreadingHTTPServer):
     daemon_threads, request_queue_size = True, 64
-    context = None
-
-    def finish_request(self, client, address):
-        """Answers one client in its own thread, where it also shakes hands: one that doesn't keeps no other waiting."""
-        if not self.context:
-            super().finish_request(client, address)
-            return
-        with self.context.wrap_socket(client, server_side=True) as secure:
-            super().finish_request(secure, address)
 
     def handle_error(self, *_):
         """Says nothing of a client that went: what it wasn't told is missed where it is compared."""
@@ -73,8 +64,10 @@ def begun(handler, certificate=None):
     """A server that ends with this process, by https where it has a certificate."""
     server = Quiet(("127.0.0.1", 0), handler)
     if certificate:
-        server.context = ssl.SSLContext(ssl.PROTOCOL_TLS_SERVER)
-        server.context.load_cert_chain(certificate)
+        context = ssl.SSLContext(ssl.PROTOCOL_TLS_SERVER)
+        context.load_cert_chain(certificate)
+        # (a client's own thread shakes hands, by its first read: one that doesn't keeps no other waiting)
+        server.socket = context.wrap_socket(server.socket, server_side=True, do_handshake_on_connect=False)
     threading.Thread(target=server.serve_forever, daemon=True).start()
     return server
 
