@@ -64,17 +64,15 @@ class Exchange:
 class Site(Handler):
     """Answers each request with the lines of its exchange.
 
-    Its server knows how many `hosts` there are, and what `ends` at which exchange: a worker is killed a moment after it
-    asked, and of Redis the event `strikes` tells."""
+    Its server knows how many `hosts` there are, the process of `redis`, and what `ends` at which exchange: that, or the
+    worker a moment after it asked."""
 
     def do_GET(self):
         number = int(self.headers["X-Exchange"])
         what = self.server.ends.pop(number, None)
-        if what == "redis":
-            self.server.strikes.set()
-        elif what:
-            words = int(self.headers["X-Worker"]), signal.SIGKILL
-            threading.Timer(random.random() / 100, os.kill, words).start()
+        if what:
+            its = self.server.redis if what == "redis" else int(self.headers["X-Worker"])
+            threading.Timer(random.random() / 100, os.kill, (its, signal.SIGKILL)).start()
         self.send_response(200)
         for it in Exchange(number, self.server.hosts).lines:
             self.send_header("Set-Cookie", it)
@@ -145,7 +143,7 @@ class Judge:
     def __init__(self, puts, notes, hosts, least):
         self.versions, self.texts = [value[:16] for _, value in puts], {key: value[16:] for key, value in puts}
         self.hosts, self.wrong = hosts, []
-        self.place_of = {number_of(version): i for i, version in enumerate(self.versions)}
+        self.place_of = {stamp_of(version)[0]: i for i, version in enumerate(self.versions)}
         # The numbers and headers that were read at each place, and what was told of each exchange's lines.
         self.headers, self.ends = defaultdict(list), {}
         for each in notes:
@@ -163,7 +161,7 @@ class Judge:
 
     def read_at(self, number, version):
         """The place of the put that an exchange read, or -1 where it read that there is none."""
-        place = self.place_of.get(number_of(version), -1) if version else -1
+        place = self.place_of.get(stamp_of(version)[0], -1) if version else -1
         if version and (place < 0 or self.versions[place] != version):
             self.wrong.append(f"{number} read what was never put")
         return place
@@ -182,7 +180,7 @@ class Judge:
         with Client(LIST) as client:
             self.compare(client, -1)
             for place, version in enumerate(self.versions):
-                exchange = Exchange(number_of(version), self.hosts)
+                exchange = Exchange(stamp_of(version)[0], self.hosts)
                 ends = client.receive(exchange.url, exchange.lines, exchange.now)
                 if self.ends.get(exchange.number, ends) != ends:
                     self.wrong.append(f"{exchange.number} was told {self.ends[exchange.number]}, not {ends}")
@@ -211,10 +209,6 @@ def stamp_of(value):
     return number, tries & 0xFFFFFFFF
 
 
-def number_of(version):
-    return stamp_of(version)[0]
-
-
 # ---- the play
 
 class Play:
@@ -224,13 +218,13 @@ class Play:
 
     def __init__(self, room, exchanges, hosts, ends):
         self.room, self.exchanges, self.hosts = room, exchanges, hosts
-        self.redis, self.workers, self.logs, self.strikes = servers.Redis(room), {}, [], multiprocessing.Event()
+        self.redis, self.workers, self.logs = servers.Redis(room), {}, []
         self.killed, self.restarts, self.failed, self.puts, self.conflicts = 0, 0, [], 0, 0
         server = Quiet(("127.0.0.1", 0), Site)
-        server.hosts, server.ends, server.strikes, self.port = hosts, ends, self.strikes, server.server_port
+        self.redis.start()
+        server.hosts, server.ends, server.redis, self.port = hosts, ends, self.redis.process.pid, server.server_port
         self.site = begun(server.serve_forever)
         server.socket.close()
-        self.redis.start()
 
     def begin(self, mine):
         """Has a worker make these exchanges."""
@@ -248,9 +242,7 @@ class Play:
             if time.monotonic() - began > patience(SECONDS):
                 raise TimeoutError("the workers have not ended")
             self.reap()
-            if self.strikes.is_set():
-                self.strikes.clear()
-                self.redis.kill()
+            if self.redis.process.poll() is not None:
                 self.redis.start()
                 self.restarts += 1
 

@@ -13,8 +13,6 @@ from .kit import read, written
 
 # What the site of an example sets.
 EXAMPLE = "sid=a3f; Path=/; Max-Age=3600"
-# The hosts of its certificate, for curl that looks at it.
-HOSTS = ("shop.com", "*.shop.com")
 
 
 class Handler(BaseHTTPRequestHandler):
@@ -72,10 +70,14 @@ def begun(handler, certificate=None):
     return server
 
 
-def served(folder, handler=Site, hosts=HOSTS):
+def served(folder, handler=Site, hosts=("shop.com", "*.shop.com")):
     """The ports of two servers, by http and by https, and the certificate of these hosts that the second one has."""
-    certificate = made_certificate(folder, hosts)
-    return [begun(handler, it).server_port for it in (None, certificate)], certificate
+    path = f"{folder}/site.pem"
+    words = ["req", "-x509", "-newkey", "ec", "-pkeyopt", "ec_paramgen_curve:prime256v1", "-nodes", "-days", "2"]
+    words += ["-subj", "/CN=loopback", "-addext", f"subjectAltName={','.join(f'DNS:{it}' for it in hosts)}"]
+    subprocess.run(["openssl", *words, "-keyout", path, "-out", f"{path}.2"], check=True, capture_output=True)
+    written(path, read(path) + read(f"{path}.2"))
+    return [begun(handler, it).server_port for it in (None, path)], path
 
 
 def strangers(*answers):
@@ -96,14 +98,6 @@ def strangers(*answers):
                     time.sleep(part)
 
     return begun(Stranger).server_port, had
-
-
-def made_certificate(folder, hosts=HOSTS):
-    path = f"{folder}/site.pem"
-    words = ["req", "-x509", "-newkey", "ec", "-pkeyopt", "ec_paramgen_curve:prime256v1", "-nodes", "-days", "2"]
-    words += ["-subj", "/CN=loopback", "-addext", f"subjectAltName={','.join(f'DNS:{it}' for it in hosts)}"]
-    subprocess.run(["openssl", *words, "-keyout", path, "-out", f"{path}.2"], check=True, capture_output=True)
-    return written(path, read(path) + read(f"{path}.2"))
 
 
 def put_curl(folder, ports, *more):
