@@ -12,7 +12,6 @@ import random
 import re
 import signal
 import struct
-import sys
 import tempfile
 import threading
 import time
@@ -65,17 +64,15 @@ class Exchange:
 class Site(Handler):
     """Answers each request with the lines of its exchange.
 
-    Its server knows how many `hosts` there are, and what `ends` at which exchange: a worker is killed a moment after it
-    asked, and of Redis the event `strikes` tells."""
+    Its server knows how many `hosts` there are, the process of `redis`, and what `ends` at which exchange: that, or the
+    worker a moment after it asked."""
 
     def do_GET(self):
         number = int(self.headers["X-Exchange"])
         what = self.server.ends.pop(number, None)
-        if what == "redis":
-            self.server.strikes.set()
-        elif what:
-            words = int(self.headers["X-Worker"]), signal.SIGKILL
-            threading.Timer(random.random() / 100, os.kill, words).start()
+        if what:
+            its = self.server.redis if what == "redis" else int(self.headers["X-Worker"])
+            threading.Timer(random.random() / 100, os.kill, (its, signal.SIGKILL)).start()
         self.send_response(200)
         for it in Exchange(number, self.server.hosts).lines:
             self.send_header("Set-Cookie", it)
@@ -85,7 +82,7 @@ class Site(Handler):
 
 # ---- workers
 
-def work(mine, hosts, ports, log):
+def work(mine, hosts, ports, path):
     """Makes these exchanges, and writes down the header of each and the version at which it was read, and what became
     of its lines once it is told."""
     import redis
@@ -113,6 +110,8 @@ def work(mine, hosts, ports, log):
 
     store = Noted(redis.Redis(port=ports[0], socket_timeout=60, retry=Retry(NoBackoff(), 0)))
     shared, site = fleet.Fleet(LIST, store), http.client.HTTPConnection("127.0.0.1", ports[1])
+
+    log = os.open(path, os.O_WRONLY | os.O_CREAT, 0o600)
 
     def note(number, **what):
         os.write(log, json.dumps({"number": number, **what}).encode() + b"\n")
@@ -144,7 +143,7 @@ class Judge:
     def __init__(self, puts, notes, hosts, least):
         self.versions, self.texts = [value[:16] for _, value in puts], {key: value[16:] for key, value in puts}
         self.hosts, self.wrong = hosts, []
-        self.place_of = {number_of(version): i for i, version in enumerate(self.versions)}
+        self.place_of = {stamp_of(version)[0]: i for i, version in enumerate(self.versions)}
         # The numbers and headers that were read at each place, and what was told of each exchange's lines.
         self.headers, self.ends = defaultdict(list), {}
         for each in notes:
@@ -162,7 +161,7 @@ class Judge:
 
     def read_at(self, number, version):
         """The place of the put that an exchange read, or -1 where it read that there is none."""
-        place = self.place_of.get(number_of(version), -1) if version else -1
+        place = self.place_of.get(stamp_of(version)[0], -1) if version else -1
         if version and (place < 0 or self.versions[place] != version):
             self.wrong.append(f"{number} read what was never put")
         return place
@@ -181,7 +180,7 @@ class Judge:
         with Client(LIST) as client:
             self.compare(client, -1)
             for place, version in enumerate(self.versions):
-                exchange = Exchange(number_of(version), self.hosts)
+                exchange = Exchange(stamp_of(version)[0], self.hosts)
                 ends = client.receive(exchange.url, exchange.lines, exchange.now)
                 if self.ends.get(exchange.number, ends) != ends:
                     self.wrong.append(f"{exchange.number} was told {self.ends[exchange.number]}, not {ends}")
@@ -210,10 +209,6 @@ def stamp_of(value):
     return number, tries & 0xFFFFFFFF
 
 
-def number_of(version):
-    return stamp_of(version)[0]
-
-
 # ---- the play
 
 class Play:
@@ -223,52 +218,46 @@ class Play:
 
     def __init__(self, room, exchanges, hosts, ends):
         self.room, self.exchanges, self.hosts = room, exchanges, hosts
-        self.redis, self.pids, self.logs, self.strikes = servers.Redis(room), {}, [], multiprocessing.Event()
+        self.redis, self.workers, self.logs = servers.Redis(room), {}, []
         self.killed, self.restarts, self.failed, self.puts, self.conflicts = 0, 0, [], 0, 0
         server = Quiet(("127.0.0.1", 0), Site)
-        server.hosts, server.ends, server.strikes, self.port = hosts, ends, self.strikes, server.server_port
-        self.site = forked(server.serve_forever)
-        server.socket.close()
         self.redis.start()
+        server.hosts, server.ends, server.redis, self.port = hosts, ends, self.redis.process.pid, server.server_port
+        self.site = begun(server.serve_forever)
+        server.socket.close()
 
     def begin(self, mine):
         """Has a worker make these exchanges."""
         path = f"{self.room}/{len(self.logs)}.log"
-        log = os.open(path, os.O_WRONLY | os.O_CREAT | os.O_APPEND, 0o600)
         self.logs.append(path)
-        self.pids[forked(lambda: work(mine, self.hosts, (self.redis.port, self.port), log))] = mine, path
-        os.close(log)
+        self.workers[begun(work, mine, self.hosts, (self.redis.port, self.port), path)] = mine, path
 
     def run(self):
         """Has all workers make their exchanges."""
         for number in range(WORKERS):
             self.begin(range(number, self.exchanges, WORKERS))
         began = time.monotonic()
-        while self.pids:
+        while self.workers:
             time.sleep(0.01)
             if time.monotonic() - began > patience(SECONDS):
                 raise TimeoutError("the workers have not ended")
             self.reap()
-            if self.strikes.is_set():
-                self.strikes.clear()
-                self.redis.kill()
+            if self.redis.process.poll() is not None:
                 self.redis.start()
                 self.restarts += 1
 
     def reap(self):
         """Looks which workers have ended, and has another one go on behind one that was killed."""
-        for pid, (mine, path) in [*self.pids.items()]:
-            ended, status = os.waitpid(pid, os.WNOHANG)
-            if not ended:
+        for worker, (mine, path) in [*self.workers.items()]:
+            if worker.exitcode is None:
                 continue
-            del self.pids[pid]
-            status = os.waitstatus_to_exitcode(status)
-            if status == -signal.SIGKILL:
+            del self.workers[worker]
+            if worker.exitcode == -signal.SIGKILL:
                 self.killed += 1
-                notes = notes_of(path)
-                self.begin(range(notes[-1]["number"] + WORKERS if notes else mine.start, mine.stop, WORKERS))
-            elif status:
-                self.failed.append(f"a worker ended by {status}")
+                # (it was killed behind a request, which it had written down)
+                self.begin(range(notes_of(path)[-1]["number"] + WORKERS, mine.stop, WORKERS))
+            elif worker.exitcode:
+                self.failed.append(f"a worker ended by {worker.exitcode}")
 
     def judge(self):
         """Looks what is wrong, how many exchanges were put, and in how many tries one came behind another one.
@@ -283,9 +272,9 @@ class Play:
         self.puts, self.conflicts = len(puts), sum(stamp_of(it)[1] - 1 for _, it in puts)
 
     def end(self):
-        for pid in [*self.pids, self.site]:
-            os.kill(pid, signal.SIGKILL)
-            os.waitpid(pid, 0)
+        for it in [*self.workers, self.site]:
+            it.kill()
+            it.join()
         self.redis.kill()
 
 
@@ -294,19 +283,11 @@ def notes_of(path):
     return [json.loads(line) for line in read(path).splitlines(True) if line.endswith(b"\n")]
 
 
-def forked(call):
-    """The process of a child that makes this call, and ends."""
-    pid = os.fork()
-    if pid:
-        return pid
-    status = 1
-    try:
-        call()
-        status = 0
-    except BaseException:
-        sys.excepthook(*sys.exc_info())
-    finally:
-        os._exit(status)
+def begun(call, *given):
+    """A child that makes this call."""
+    child = multiprocessing.get_context("fork").Process(target=call, args=given, daemon=True)
+    child.start()
+    return child
 
 
 def played(exchanges, hosts, killed):

@@ -13,8 +13,6 @@ from .kit import read, written
 
 # What the site of an example sets.
 EXAMPLE = "sid=a3f; Path=/; Max-Age=3600"
-# The hosts of its certificate, for curl that looks at it.
-HOSTS = ("shop.com", "*.shop.com")
 
 
 class Handler(BaseHTTPRequestHandler):
@@ -55,15 +53,6 @@ class Site(Handler):
 
 class Quiet(ThreadingHTTPServer):
     daemon_threads, request_queue_size = True, 64
-    context = None
-
-    def finish_request(self, client, address):
-        """Answers one client in its own thread, where it also shakes hands: one that doesn't keeps no other waiting."""
-        if not self.context:
-            super().finish_request(client, address)
-            return
-        with self.context.wrap_socket(client, server_side=True) as secure:
-            super().finish_request(secure, address)
 
     def handle_error(self, *_):
         """Says nothing of a client that went: what it wasn't told is missed where it is compared."""
@@ -73,16 +62,22 @@ def begun(handler, certificate=None):
     """A server that ends with this process, by https where it has a certificate."""
     server = Quiet(("127.0.0.1", 0), handler)
     if certificate:
-        server.context = ssl.SSLContext(ssl.PROTOCOL_TLS_SERVER)
-        server.context.load_cert_chain(certificate)
+        context = ssl.SSLContext(ssl.PROTOCOL_TLS_SERVER)
+        context.load_cert_chain(certificate)
+        # (a client's own thread shakes hands, by its first read: one that doesn't keeps no other waiting)
+        server.socket = context.wrap_socket(server.socket, server_side=True, do_handshake_on_connect=False)
     threading.Thread(target=server.serve_forever, daemon=True).start()
     return server
 
 
-def served(folder, handler=Site, hosts=HOSTS):
+def served(folder, handler=Site, hosts=("shop.com", "*.shop.com")):
     """The ports of two servers, by http and by https, and the certificate of these hosts that the second one has."""
-    certificate = made_certificate(folder, hosts)
-    return [begun(handler, it).server_port for it in (None, certificate)], certificate
+    path = f"{folder}/site.pem"
+    words = ["req", "-x509", "-newkey", "ec", "-pkeyopt", "ec_paramgen_curve:prime256v1", "-nodes", "-days", "2"]
+    words += ["-subj", "/CN=loopback", "-addext", f"subjectAltName={','.join(f'DNS:{it}' for it in hosts)}"]
+    subprocess.run(["openssl", *words, "-keyout", path, "-out", f"{path}.2"], check=True, capture_output=True)
+    written(path, read(path) + read(f"{path}.2"))
+    return [begun(handler, it).server_port for it in (None, path)], path
 
 
 def strangers(*answers):
@@ -103,14 +98,6 @@ def strangers(*answers):
                     time.sleep(part)
 
     return begun(Stranger).server_port, had
-
-
-def made_certificate(folder, hosts=HOSTS):
-    path = f"{folder}/site.pem"
-    words = ["req", "-x509", "-newkey", "ec", "-pkeyopt", "ec_paramgen_curve:prime256v1", "-nodes", "-days", "2"]
-    words += ["-subj", "/CN=loopback", "-addext", f"subjectAltName={','.join(f'DNS:{it}' for it in hosts)}"]
-    subprocess.run(["openssl", *words, "-keyout", path, "-out", f"{path}.2"], check=True, capture_output=True)
-    return written(path, read(path) + read(f"{path}.2"))
 
 
 def put_curl(folder, ports, *more):

@@ -193,7 +193,7 @@ def interrupt(connection, call):
     connection.cursor_factory = Cursor
 
 
-@unittest.skipUnless(importlib.util.find_spec("psycopg2") and not servers.Postgres.missing(), "PostgreSQL isn't there")
+@unittest.skipUnless(importlib.util.find_spec("psycopg2"), "psycopg2 isn't there")
 class Postgres(Served, unittest.TestCase):
     kind = servers.Postgres
     MODES = [{}, {"autocommit": True}, {"isolation_level": "REPEATABLE READ"}, {"isolation_level": "SERIALIZABLE"}]
@@ -201,6 +201,9 @@ class Postgres(Served, unittest.TestCase):
     @classmethod
     def setUpClass(cls):
         import psycopg2
+        if why := servers.Postgres.missing():
+            print(f"skipped: a fleet in PostgreSQL: {why}", flush=True)
+            raise unittest.SkipTest(why)
         # A connection that is still open as the server has to end.
         cls.addClassCleanup(lambda: cls.held.close())
         super().setUpClass()
