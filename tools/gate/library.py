@@ -120,32 +120,28 @@ def counted(words, folder, **how):
 
 # ---- the sources
 
-def needed(top, line):
-    """The lines of a tree's crates.txt that this one stands on, and this one."""
-    needs, lines, left = needs_of(text_of(f"{top}/crates.txt")), {}, [*needs_of(line).values()][0]
-    while left:
-        name, left = left[0], left[1:]
-        if name in needs and name not in lines:
-            lines[name], left = f"{name}: {' '.join(needs[name])}\n", left + needs[name]
-    return {**dict(sorted(lines.items())), line.partition(":")[0].split()[0]: line}
+def below(line):
+    """The lines of crates.txt that this one stands on, by the names of their crates."""
+    [needs], uses = needs_of(line).values(), needs_of(text_of(f"{TOP}/crates.txt"))
+    names = {its for it in needs if it in uses for its in program.crates_to(it)}
+    return {it: f"{it}: {' '.join(uses[it])}\n" for it in sorted(names)}
 
 
-def put_tree(top, room, line, sources, passed_over=("must-fail", "out", "proofs")):
+def put_tree(room, line, sources, passed_over=("must-fail", "out", "proofs")):
     """Copies the crates below that of a line of crates.txt to a folder, and puts that one there with its sources."""
-    lines = needed(top, line)
-    *below, crate = lines
-    for it in below:
+    lines, crate = below(line), f"{room}/crates/{line.partition(':')[0].split()[0]}"
+    for it in lines:
         ignored = shutil.ignore_patterns(*passed_over)
-        shutil.copytree(f"{top}/crates/{it}", f"{room}/crates/{it}", symlinks=True, ignore=ignored)
+        shutil.copytree(f"{TOP}/crates/{it}", f"{room}/crates/{it}", symlinks=True, ignore=ignored)
     for name, text in sources.items():
-        written(f"{room}/crates/{crate}/src/{name}", text)
-    written(f"{room}/crates.txt", "".join(lines.values()))
-    return f"{room}/crates/{crate}"
+        written(f"{crate}/src/{name}", text)
+    written(f"{room}/crates.txt", "".join([*lines.values(), line]))
+    return crate
 
 
-def calls(top=TOP):
+def calls():
     """The functions of tools/measured by their names, and how each is called in Rattle."""
-    texts = [text_of(f"{top}/tools/measured/{it}.txt") for it in ("calls", "largest")]
+    texts = [text_of(f"{HERE}/{it}.txt") for it in ("calls", "largest")]
     return {**{it[1]: f"calls::{it[1]}(kept, first, second).is_some()" for it in CALL.finditer(texts[0])},
             **{it[1]: f"largest::{it[1]}(kept.alloc).is_ok()" for it in LARGE.finditer(texts[1])}}
 
@@ -163,15 +159,14 @@ def value(type_):
     return f"{array[1]}[0; {array[2]}]" if array else VALUES.get(type_, "0")
 
 
-def sources(top):
+def sources():
     """The sources of tools/measured as a program's."""
-    at = f"{top}/tools/measured"
-    texts = {"secrets.rt": text_of(f"{at}/secrets.rt.txt"), "calls.rt": CALL.sub(done, text_of(f"{at}/calls.txt")),
-             "largest.rt": LARGE.sub(LARGEST, text_of(f"{at}/largest.txt"))}
-    main = text_of(f"{at}/lib.rt.txt") + "".join(WRAPPER.format(name=name, done=it) for name, it in calls(top).items())
+    texts = {"secrets.rt": text_of(f"{HERE}/secrets.rt.txt"), "calls.rt": CALL.sub(done, text_of(f"{HERE}/calls.txt")),
+             "largest.rt": LARGE.sub(LARGEST, text_of(f"{HERE}/largest.txt"))}
+    main = text_of(f"{HERE}/lib.rt.txt") + "".join(WRAPPER.format(name=name, done=it) for name, it in calls().items())
     lines = []
     for path, text in (("", main), ("secrets::", texts["secrets.rt"]),
-                       ("fonnalich_c::", text_of(f"{top}/crates/fonnalich_c/src/lib.rt"))):
+                       ("fonnalich_c::", text_of(f"{TOP}/crates/fonnalich_c/src/lib.rt"))):
         for name, words in EXPORT.findall(text):
             types = [it.partition(":")[2].strip() for it in words.split(",") if it.strip()]
             lines.append(f"        {path}{name}({', '.join(map(value, types))});\n")
@@ -180,31 +175,31 @@ def sources(top):
 
 # ---- the module
 
-def made_of(top):
-    """What tells the module of a tree from another's."""
-    parts = [f"crates/{it}/{part}" for it in needed(top, text_of(f"{top}/tools/measured/crate.txt")) for part in PARTS]
-    crates = sum_of_files(top, walked(top, "crates.txt", *parts))
-    calls = hashlib.sha256(json.dumps(sources(top), sort_keys=True).encode()).hexdigest()
+def made_of():
+    """What tells the module of the tree from another's."""
+    parts = [f"crates/{it}/{part}" for it in below(text_of(f"{HERE}/crate.txt")) for part in PARTS]
+    crates = sum_of_files(TOP, walked(TOP, "crates.txt", *parts))
+    calls = hashlib.sha256(json.dumps(sources(), sort_keys=True).encode()).hexdigest()
     return f"toolchain={version_of_rt()}\nsources={crates} {calls}\n"
 
 
 def module():
     """The module of the tree in LLVM's text, compiled where none of these sources is kept, by one process at a time."""
-    made = made_of(TOP)
+    made = made_of()
     with compiler.alone(f"{KEPT}.lock"):
         if program.noted(KEPT) != made:
             # (who reads the line may interrupt at once, and a folder that is being made would stay)
             with tempfile.TemporaryDirectory(prefix="measured-") as room:
                 say(f"compiling the library, with no proof: some {SECONDS} seconds")
-                shutil.copyfile(compiled(TOP, room), f"{KEPT}.new")
+                shutil.copyfile(compiled(room), f"{KEPT}.new")
             os.replace(f"{KEPT}.new", KEPT)
             program.put_note(KEPT, made)
         return text_of(KEPT)
 
 
-def compiled(top, room):
-    """Compiles the module of a tree's sources, and returns its path."""
-    put_tree(top, f"{room}/tree", text_of(f"{top}/tools/measured/crate.txt"), sources(top))
+def compiled(room):
+    """Compiles the module of the tree's sources, and returns its path."""
+    put_tree(f"{room}/tree", text_of(f"{HERE}/crate.txt"), sources())
     # (`main` names it)
     of_c = f"{room}/tree/crates/fonnalich_c/src/lib.rt"
     line = "use crate::attributes::Attributes;\n"

@@ -9,6 +9,7 @@ import tempfile
 
 from . import library, program as programs
 from .kit import CC, TOP, place, read, written
+from .packing import printed
 
 # The number in the shared library's name, which changes with what it exports.
 SONAME = "libfonnalich.so.0"
@@ -24,10 +25,6 @@ FOR_ARM = (f"{TOP}/bindings/c/heap.c", f"{PACKAGING}/os.c")
 PLAIN = ("--build-id=none", "-z", "now", "-z", "relro", "--gc-sections", "-s")
 
 
-def run(*words):
-    subprocess.run(words, stdout=subprocess.DEVNULL, check=True)
-
-
 def shared(processor, archive):
     """The shared library of an archive, which exports the calls of the header and nothing else. The toolchain links it,
     so that it has the same bytes on each machine."""
@@ -36,7 +33,7 @@ def shared(processor, archive):
         words = ["-shared", "-soname", SONAME, f"--version-script={exports}", *PLAIN]
         whole = ["--whole-archive", archive, "--no-whole-archive"]
         linker = place("ld.lld")
-        run(linker, "-o", made, *words, *whole, *stubs(room, linker, processor))
+        printed(linker, "-o", made, *words, *whole, *stubs(room, linker, processor))
         return read(made)
 
 
@@ -45,27 +42,30 @@ def stubs(room, linker, processor):
     build, target = library.load_build(TOP), f"{processor}-unknown-linux-gnu"
     names = written(f"{room}/names.c", "".join(f"void {it}(void) {{}}\n" for it in TAKEN))
     words = ["-shared", "-soname", "libc.so.6", f"--version-script={written(f'{room}/least', LEAST[processor])}"]
-    run(linker, "-o", f"{room}/libc.so", *words, build.in_c(room, names, target))
+    printed(linker, "-o", f"{room}/libc.so", *words, build.in_c(room, names, target))
     return [build.in_c(room, f"{PACKAGING}/division.c", target), "--as-needed", f"{room}/libc.so"]
 
 
-class Unlinked(Exception):
-    """Why there is no program."""
+def compiler_for(processor):
+    return CC if processor == "x86_64" else shlex.split(ARM_CC)
+
+
+def why_none(processor, command):
+    """Why a program isn't packed, if that is so: it isn't there, or no static file can be linked."""
+    if not programs.is_built(command):
+        return "it isn't proved and built"
+    if not links_static(processor):
+        return (f"'{shlex.join(compiler_for(processor))}' isn't there, or links no static file: the C library's are "
+                f"wanted, as of Debian's package libc6-dev{'-arm64-cross' * (processor != 'x86_64')}")
+    if not programs.is_built_for(command, processor):
+        return f"there is no object of it for {processor} of these sources by this toolchain"
+    return ""
 
 
 def program(processor, command):
-    """A proved program as a static file. Raises Unlinked where there is none, or no static file can be linked."""
-    is_arm = processor != "x86_64"
-    words = shlex.split(ARM_CC) if is_arm else CC
-    if not programs.is_built(command):
-        raise Unlinked("it isn't proved and built")
-    if not links_static(processor):
-        raise Unlinked(f"'{shlex.join(words)}' isn't there, or links no static file: the C library's are wanted, as of "
-                       f"Debian's package {'libc6-dev-arm64-cross' if is_arm else 'libc6-dev'}")
-    if not programs.is_built_for(command, processor):
-        raise Unlinked(f"there is no object of it for {processor} of these sources by this toolchain")
+    """A proved program as a static file."""
+    words, beside = compiler_for(processor), FOR_ARM if processor != "x86_64" else (place("os"), place("libc"))
     try:
-        beside = FOR_ARM if is_arm else (place("os"), place("libc"))
         return static(words, [programs.built_for(command, processor), *beside])
     except subprocess.CalledProcessError:
         sys.exit(f"package: '{shlex.join(words)}' doesn't link {command}, as stands above")
@@ -73,8 +73,7 @@ def program(processor, command):
 
 def linker_of(processor):
     """The compiler and the C library that a processor's programs are linked by, as they name themselves."""
-    words = CC if processor == "x86_64" else shlex.split(ARM_CC)
-    how = {"stdout": subprocess.PIPE, "text": True, "check": True}
+    words, how = compiler_for(processor), {"stdout": subprocess.PIPE, "text": True, "check": True}
     compiler = subprocess.run([*words, "--version"], **how).stdout.splitlines()[0]
     asked = "#include <features.h>\n__GLIBC__.__GLIBC_MINOR__\n"
     told = subprocess.run([*words, "-E", "-P", "-x", "c", "-"], input=asked, **how).stdout.strip().splitlines()[-1]
@@ -84,7 +83,7 @@ def linker_of(processor):
 @functools.lru_cache(None)
 def links_static(processor):
     """Whether a compiler for a processor is there, with a C library that links static files."""
-    words = CC if processor == "x86_64" else shlex.split(ARM_CC)
+    words = compiler_for(processor)
     if not shutil.which(words[0]):
         return False
     with tempfile.TemporaryDirectory() as room:
@@ -97,5 +96,5 @@ def static(words, parts):
     flags = ["-O2", "-std=gnu11", "-Wall", "-Wextra", "-static", "-Wl,--build-id=none", "-Wl,--gc-sections",
              "-Wl,-s"]
     with tempfile.TemporaryDirectory() as room:
-        run(*words, *parts, *flags, "-o", f"{room}/made")
+        printed(*words, *parts, *flags, "-o", f"{room}/made")
         return read(f"{room}/made")

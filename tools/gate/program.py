@@ -96,17 +96,16 @@ def made_of(crate, *more, top=TOP):
     return f"toolchain={version_of_rt()}\nsources={sum_of_files(top, names)}\n"
 
 
-def put_note(path, made):
-    """Tells beside a built file what it is made of, and its sum."""
-    written(f"{path}.made", f"{made}sha256={hashlib.sha256(read(path)).hexdigest()}\n")
+def put_note(path, told, note=None):
+    """Tells in a note beside a built file what it is made of, or else of it, and its sum."""
+    written(note or f"{path}.made", f"{told}sha256={hashlib.sha256(read(path)).hexdigest()}\n")
 
 
-def noted(path):
+def noted(path, note=None):
     """What is told so of a file, or None where no note tells of its bytes."""
-    if not os.path.isfile(f"{path}.made"):
-        return None
-    made, _, its_sum = text_of(f"{path}.made").partition("sha256=")
-    return made if its_sum.strip() == hashlib.sha256(read(path)).hexdigest() else None
+    note = note or f"{path}.made"
+    told, _, its_sum = text_of(note).partition("sha256=") if os.path.isfile(note) else ("", "", "")
+    return told if its_sum and its_sum.strip() == hashlib.sha256(read(path)).hexdigest() else None
 
 
 def compiled(command):
@@ -192,10 +191,8 @@ def compile_sources(command):
     with compiler.alone(f"{folder}/lock", lambda: say("waiting for another compile")):
         if not os.access(path, os.X_OK):
             say(f"compiling {command}, with no proof: some {SECONDS[command]} seconds, once")
-            try:
-                put_compiled(command, f"{folder}/new", path, log)
-            finally:
-                shutil.rmtree(f"{folder}/new", ignore_errors=True)
+            with tempfile.TemporaryDirectory(dir=folder) as room:
+                put_compiled(command, room, path, log)
     if not os.access(path, os.X_OK):
         stop(f"{command} was not compiled; {os.path.relpath(log)} tells why", 126)
     return path
@@ -203,9 +200,7 @@ def compile_sources(command):
 
 def put_compiled(command, room, path, log):
     """Compiles the program in a folder, and puts it at its path at once, if it can be compiled."""
-    # (what one that was killed left)
-    shutil.rmtree(room, ignore_errors=True)
-    made, (folder, _) = f"{room}/made/{command}", os.path.split(os.path.dirname(path))
+    made, folder = f"{room}/made/{command}", os.path.dirname(room)
     os.makedirs(os.path.dirname(made))
     links = ["--link", place("os"), "--link", place("libc")]
     with open(log, "wb") as to:

@@ -1,8 +1,11 @@
 /* The memory of the calls that are counted, and what copies and fills it: the same on every machine, whatever its C
    library and its processor. */
-#include "heap.h"
+typedef __SIZE_TYPE__ size_t;
 
-struct heap heap;
+/* The bytes of all growths so far, and of what is kept now. */
+struct {
+    size_t asked, kept;
+} heap;
 
 /* ---- copies and fills, by 16 bytes and then by one */
 
@@ -57,6 +60,7 @@ static size_t used;
 enum { SMALL = 4096 };
 static struct block *small[SMALL / 16 + 1], *large[64];
 
+/* Begins anew, where nothing is kept. */
 void heap_begin(void) {
     used = 0;
     for (size_t i = 0; i < sizeof small / sizeof *small; i++)

@@ -10,7 +10,12 @@
 #include <string.h>
 #include <valgrind/callgrind.h>
 #include "fonnalich.h"
-#include "heap.h"
+
+/* (of heap.c, whose compiler has no headers) */
+extern struct {
+    size_t asked, kept;
+} heap;
+void heap_begin(void);
 
 typedef bool call(void *at, const char *, size_t, const char *, size_t);
 size_t measured_size(void);

@@ -7,10 +7,10 @@ wide __udivti3(wide number, wide by) {
         return (unsigned long)number / (unsigned long)by;
     wide quotient = 0, rest = 0;
     for (int i = 128; i-- > 0;) {
-        int is_long = (int)(rest >> 127);
         rest = rest << 1 | (number >> i & 1);
         quotient <<= 1;
-        if (is_long || rest >= by)
+        /* (nothing is shifted out: before the last bit `rest` has 127 at most) */
+        if (rest >= by)
             rest -= by, quotient |= 1;
     }
     return quotient;

@@ -5,20 +5,17 @@ typedef unsigned __int128 wide;
 wide divided(wide number, wide by);
 
 int main(void) {
-    wide texts[140], seed = 1;
-    int count = 0, wrong = 0;
-    for (int i = 0; i < 128; i += 9)
-        for (int less = -1; less < 2; less++)
-            texts[count++] = ((wide)1 << i) + less;
-    texts[count++] = ~(wide)0;
-    while (count < 140) {
+    enum { COUNT = 140, POWERS = 64 };
+    wide texts[COUNT] = {~(wide)0}, seed = 1;
+    int wrong = 0;
+    for (int i = 1; i < COUNT; i++) {
         /* (Knuth's generator MMIX, by 128 bits) */
         seed = seed * 6364136223846793005u + 1442695040888963407u;
-        texts[count++] = seed;
+        texts[i] = i < POWERS ? ((wide)1 << 2 * i) + i % 3 - 1 : seed;
     }
-    for (int i = 0; i < count; i++)
-        for (int j = 0; j < count; j++)
+    for (int i = 0; i < COUNT; i++)
+        for (int j = 0; j < COUNT; j++)
             wrong += texts[j] != 0 && divided(texts[i], texts[j]) != texts[i] / texts[j];
-    printf("%d of %d\n", wrong, count * count);
+    printf("%d of %d\n", wrong, COUNT * COUNT);
     return 0;
 }
