@@ -149,8 +149,8 @@ static void reads_until(char way) {
     }
 }
 
-/* (of a reading of a signed value that ends and is right memcheck tells wherever its value goes, since the compiler takes
-   that by the verdict, and not by a branch) */
+/* (of a reading of a signed value that ends and is right memcheck tells wherever its value goes, since the compiler
+   takes that by the verdict, and not by a branch) */
 #define LOOKS(X) \
     X(sets_signed, sets(key, *FONNALICH_SIGNED)) \
     X(sets_sealed, sets(key, *FONNALICH_SEALED)) \

@@ -32,8 +32,8 @@ static inline void take(const char *word, const char *name, void (*look)(void)) 
    of its own, since memcheck tells of a place once in a run. */
 #define DEFINED(name, does) static void name(void) { does; }
 #define TAKEN(name, does) take(words[1], #name, name);
-/* With the word `counts` callgrind writes down what calls take. What is taken from the system and given back to it hangs
-   on what was asked before. */
+/* With the word `counts` callgrind writes down what calls take. What is taken from the system and given back to it
+   hangs on what was asked before. */
 #define TAKE_ALL(looks, count, words, counts) \
     if (count > 1 && strcmp(words[1], "counts") == 0) { \
         mallopt(M_TRIM_THRESHOLD, 1 << 30); \
