@@ -1,6 +1,5 @@
 /* The calls of tools/measured/secrets.rt.txt, where of no argument anything is known but its length. With the word
-   `counts` callgrind writes down how many instructions readings take under a ring, by the key that made what is read.
-   */
+   `counts` callgrind counts the instructions of readings under a ring, by the key that made what is read. */
 #include "secrets.h"
 
 /* A text with its length, as the library takes it. */
