@@ -360,6 +360,9 @@ static void tells_what_started_an_answers_request(void) {
         ask(gives(count, 4) && memcmp(out, rows[i].ends, 4) == 0, rows[i].page);
     }
     fonnalich_list(&at, T(LIST));
+    fonnalich_rules(&at, FONNALICH_RULE_NONE_NEEDS_SECURE);
+    ask(gives(fonnalich_receive(&at, NOW, T(URL), T("n=3; SameSite=None"), out, sizeof out), 1) && out[0] == NONE,
+        "a line by itself, for the user");
     fonnalich_rules(&at, FONNALICH_NO_RULES);
     ask(gives(receive_for(&at, FONNALICH_BY_USER, "", LINES, out, sizeof out), 4), "four lines");
     ask(gives(receive_for(&at, FONNALICH_BY_PAGE, "https://evil.org/", "s=9; SameSite=Strict", out, sizeof out), 1),

@@ -874,6 +874,8 @@ mod tests {
             let mut client = Client::with_rules(LIST, rules).unwrap();
             assert_eq!(client.receive_for(URL, initiator, &lines, NOW).unwrap(), ends, "{rules:?} {initiator:?}");
         }
+        let mut client = Client::with_rules(LIST, needs_secure).unwrap();
+        assert_eq!(client.receive(URL, &lines, NOW).unwrap(), [IN, IN, NONE, IN]);
         let mut client = Client::new(LIST).unwrap();
         assert_eq!(client.receive_for(URL, Initiator::Page("no url"), &["a=1"], NOW), Err(Error::Url));
         assert_eq!(client.receive_for(URL, Initiator::Page(""), &["a=1"], i64::MAX), Err(Error::Moment));

@@ -35,8 +35,7 @@ pub struct Rules {
     /// [`Client::header_for`](crate::Client::header_for) and [`Client::receive_for`](crate::Client::receive_for) take a
     /// cookie without `SameSite` as one with `SameSite=Lax`. The draft has it, and Firefox and Safari don't.
     pub lax_by_default: bool,
-    /// [`Client::receive_for`](crate::Client::receive_for) refuses a cookie with `SameSite=None` that isn't Secure. The
-    /// draft has it, and Firefox and Safari don't.
+    /// A cookie with `SameSite=None` that isn't Secure is refused. The draft has it, and Firefox and Safari don't.
     pub none_needs_secure: bool,
 }
 
@@ -100,7 +99,7 @@ pub enum Rule {
     /// [`Client::receive_for`](crate::Client::receive_for) alone: a page of another site started the request, which
     /// doesn't navigate the top level, and the cookie is `Strict` or `Lax`.
     CrossSite,
-    /// That call alone: the cookie has `SameSite=None` and isn't Secure.
+    /// The cookie has `SameSite=None` and isn't Secure.
     NoneLacksSecure,
 }
 
