@@ -7,7 +7,7 @@ use crate::field::trimmed;
 use crate::head::Field;
 use std::alloc::{AllocError, Global};
 
-/// The value of a field, to which the folded lines are joined with which what is behind it begins.
+/// The value of a field, to which the folded lines are joined with which what follows it begins.
 ///
 /// # Errors
 ///

@@ -43,7 +43,7 @@ pub struct Head<'a> {
     pub number: usize,
     /// Three digits: 0 to 999.
     pub status: u16,
-    /// The fields in their order, one for each line behind the status line. A line that is no field line stands for one
+    /// The fields in their order, one for each line after the status line. A line that is no field line stands for one
     /// without a name.
     pub fields: Vec<Field<'a>>,
 }
@@ -130,7 +130,7 @@ fn push_location<'a>(
 }
 
 impl<'a> Head<'a> {
-    /// The values of the `Set-Cookie` fields, in their order (RFC 6265, section 4.1), each with the folded lines behind
+    /// The values of the `Set-Cookie` fields, in their order (RFC 6265, section 4.1), each with the folded lines after
     /// it, joined to it by single spaces (RFC 9112, section 5.2). One that then holds a carriage return or a zero byte
     /// is none.
     ///
@@ -212,12 +212,12 @@ pub struct Found<'a> {
     pub stop: Option<(usize, StopFault)>,
 }
 
-/// The heads of a text, one directly behind another. A head begins at a status line and ends at an empty line; all
-/// that stands behind them is passed over, as trailers and bodies are. A line ends at a line feed, and a carriage
+/// The heads of a text, one directly after another. A head begins at a status line and ends at an empty line; all
+/// that follows one is passed over, as trailers and bodies are. A line ends at a line feed, and a carriage
 /// return before that is no part of it.
 ///
 /// A line that begins with `HTTP/`, in any case of its letters, and is no whole head's status line, or doesn't stand
-/// directly behind a head, stops all reading: none can say whose head that would be. Whoever takes something of the
+/// directly after a head, stops all reading: none can say whose head that would be. Whoever takes something of the
 /// heads tells the line of [`Found::stop`], since from it on all is left out.
 ///
 /// # Errors
@@ -260,7 +260,7 @@ pub fn heads<'a>(alloc: Global, text: &'a [u8]) -> Result<Found<'a>, AllocError>
     })
 }
 
-// Where reading stops behind a line that is passed over.
+// Where reading stops after a line that is passed over.
 fn stop_behind(lines: &mut Lines<'_>) -> Option<(usize, StopFault)>
     ensures { spec.StopsBehind lines.old.taken (spec_lines.whole_lines lines.old.rest.now)
         (spec_lines.cut_end lines.old.rest.now) result }

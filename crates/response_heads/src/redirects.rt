@@ -19,7 +19,7 @@ pub struct Visit<'a> {
     /// What it answered.
     pub head: Head<'a>,
     /// Whether a proxy answered, and opened a tunnel to that URL (RFC 9110, section 9.3.6): a success that isn't the
-    /// last head, or behind which reading stopped, where the URL is one of `https`. Behind another success it is one
+    /// last head, or after which reading stopped, where the URL is one of `https`. After another success it is one
     /// only without `Content-Length` and `Transfer-Encoding`, since such an answer has no content.
     pub is_tunnel: bool,
 }
@@ -78,8 +78,8 @@ pub struct Visited<'a> {
 
 /// The heads of a text, each with the URL that answered it: the first is answered by the given one. Behind a
 /// redirection the next is answered by the URL of its `Location`, which must be plain, or an absolute path that this
-/// URL has as it stands, and behind any other head by the same URL as that. Where a redirection has another `Location`,
-/// or several, the heads behind it are left out.
+/// URL has as it stands, and after any other head by the same URL as that. Where a redirection has another `Location`,
+/// or several, the heads after it are left out.
 ///
 /// # Errors
 ///
