@@ -150,8 +150,8 @@ static void reads_until(char way) {
     }
 }
 
-/* (of a reading of a signed value that is right memcheck tells wherever its value goes, since the compiler takes that by
-   the verdict, and not by a branch: text_verified_under_ring of calls.c looks at it) */
+/* (of a reading of a signed value that is right memcheck tells wherever its value goes, since the compiler takes that
+   by the verdict, and not by a branch: text_verified_under_ring of calls.c looks at it) */
 #define LOOKS(X) \
     X(sets_signed, sets(key, *FONNALICH_SIGNED)) \
     X(sets_sealed, sets(key, *FONNALICH_SEALED)) \
